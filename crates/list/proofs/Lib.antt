@@ -1,0 +1,5 @@
+pub mod Joined
+pub mod Forms
+pub mod Steps
+pub mod Written
+pub mod Accepts

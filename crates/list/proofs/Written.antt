@@ -1,0 +1,232 @@
+-- One datum: what is written is read, and what is read was written. Assumes nothing.
+use mathlib.Core.Path.{_≡_, refl, sym, ap, _∙_, subst}
+use mathlib.Core.List.{List, [], _∷_, _++_}
+use mathlib.Core.Bool.{Bool, true, false, cond}
+use Prim.Native.Nat.{ℕ, zero, suc, _+_, _-_, _*_, _^_, _<_}
+use native.Mathlib.Nat.{mul-assoc, add-assoc, add-mul, pow-succ'}
+use native.Mathlib.Numerals.{add-one}
+use native.Mathlib.Omega.{arith}
+use lib.ListN.{length, getD, drop, length-drop}
+use lib.Seq.{drop-cons}
+use lib.IntN.{ℤ}
+use lib.Dec.{T, eqb}
+use lib.Ieee.{Float, binary32, binary64, ofBits}
+use lib.Ieee.Bits.{is-true}
+use borrow.Author.Tests.{lt-ltb, eqb-true}
+use Rattle.words.specs.declared.Word.{Word}
+use Rattle.words.specs.declared.Word.the-variants as W
+use Rattle.words.specs.Words.{wordOf, wordAt, twos}
+use Rattle.words.specs.Cases.{ifPiece}
+use Rattle.words.specs.IsWord.{IsWord}
+use Rattle.words.proofs.IsWord.{reads, read-at}
+use Rattle.words.proofs.Cases.{there, is-datum}
+use Rattle.whole.specs.declared.Whole as H
+use Rattle.whole.specs.Whole.{wholeOf}
+use Rattle.whole.specs.Stands.{StandsFor}
+use Rattle.whole.proofs.Stands.{stands}
+use Rattle.machine_data.specs.Table.{inRange}
+use Rattle.list.specs.declared.Datum as D
+use Rattle.list.specs.declared.Pieces as P
+use Rattle.list.specs.declared.DatumRead as R
+use Rattle.list.specs.declared.Units as U
+use Rattle.list.specs.declared.Step as S
+use Rattle.list.specs.Datum.{piecesAt, onPieces, formAt, byForm, datumAt, ofWhole, unitsOf}
+use Rattle.list.specs.Reading.{stepAt, ofRead, ofUnits}
+use Rattle.list.specs.IsList.{InPieces, nothing, piece, Written, whole, single, double}
+use Rattle.list.proofs.Joined.{piece-there, first-piece}
+use Rattle.list.proofs.Forms.{form-is, of-form}
+use Rattle.list.proofs.Steps.{by-units}
+
+-- ---- the words from a place on
+
+pub present : (s : List ℕ) (at w : ℕ) (t : List ℕ) → drop at s ≡ w ∷ t → at < length s
+present s at w t e = go (length s) (sym (length-drop at s) ∙ ap length e)
+  where
+    go : (n : ℕ) → n - at ≡ suc (length t) → at < n
+    go n h = omega arith
+
+pub front-word : (s : List ℕ) (at w : ℕ) (t : List ℕ) → drop at s ≡ w ∷ t → getD s at 0 ≡ w
+front-word s at w t e = let c = drop-cons s at 0 (present s at w t e) in cc
+
+pub behind : (s : List ℕ) (at w : ℕ) (t : List ℕ) → drop at s ≡ w ∷ t → drop (at + 1) s ≡ t
+behind s at w t e = let c = drop-cons s at 0 (present s at w t e) in rw add-one (cc)
+
+pub front-reads : (s : List ℕ) (at w : ℕ) (t : List ℕ) {x : Word} → drop at s ≡ w ∷ t → IsWord w x → wordAt s at ≡ x
+unfolding wordAt
+front-reads s at w t e h = simp (lt-ltb at (length s) (present s at w t e)) (ap wordOf (front-word s at w t e) ∙ reads h)
+
+pub front-is : (s : List ℕ) (at : ℕ) → at < length s → drop at s ≡ getD s at 0 ∷ drop (at + 1) s
+front-is s at h = rw (add-one, drop-cons s at 0)
+
+-- ---- pieces
+
+pub in-length : {n b : ℕ} {ws : List ℕ} → InPieces n b ws → length ws ≡ n
+in-length nothing = refl
+in-length (piece h t) = ap suc (in-length t)
+
+-- a piece p before n others that hold b, behind the bits before
+shifted : (bits p n b : ℕ) → (bits * 65536 + p) * 65536 ^ n + b ≡ bits * 65536 ^ suc n + (p * 65536 ^ n + b)
+shifted bits p n b =
+    ap (λ (m : ℕ). m + b) (add-mul (bits * 65536) p (65536 ^ n))
+    ∙ add-assoc (bits * 65536 * 65536 ^ n) (p * 65536 ^ n) b
+    ∙ ap (λ (m : ℕ). m + (p * 65536 ^ n + b)) (mul-assoc bits 65536 (65536 ^ n) ∙ ap (λ (m : ℕ). bits * m) (sym (pow-succ' 65536 n)))
+
+pub pieces-read : {n b : ℕ} {ws : List ℕ} → InPieces n b ws → (s : List ℕ) (at : ℕ) (rest : List ℕ) → drop at s ≡ ws ++ rest → (bits : ℕ) →
+    piecesAt s at n bits ≡ P.the-variants.Bits (bits * 65536 ^ n + b)
+unfolding piecesAt
+pieces-read nothing s at rest e bits = ap P.the-variants.Bits {x = bits} {y = bits * 1 + 0} (omega arith)
+pieces-read (piece {w} {p} {n} {b} {ws} h t) s at rest e bits =
+    ap (λ (x : Word). ifPiece x (λ q. piecesAt s (at + 1) n (bits * 65536 + q)) (P.the-variants.Bad at)) (front-reads s at w (ws ++ rest) e h)
+    ∙ pieces-read t s (at + 1) rest (behind s at w (ws ++ rest) e) (bits * 65536 + p)
+    ∙ ap P.the-variants.Bits (shifted bits p n b)
+
+pub pieces-written : (s : List ℕ) (at n bits b : ℕ) → piecesAt s at n bits ≡ P.the-variants.Bits b →
+    (low : ℕ) × (ws : List ℕ) × InPieces n low ws × (b ≡ bits * 65536 ^ n + low) × (drop at s ≡ ws ++ drop (at + n) s)
+unfolding piecesAt
+pieces-written s at zero bits b e =
+    let q : bits ≡ b = cc in
+    let z : at ≡ at + 0 = omega arith in
+    (0, [], nothing, sym q ∙ one bits, ap (λ (i : ℕ). drop i s) z)
+  where
+    one : (m : ℕ) → m ≡ m * 1 + 0
+    one m = omega arith
+pieces-written s at (suc n) bits b e =
+    let p = first-piece s at n bits b e in
+    let r = pieces-written s (at + 1) n (bits * 65536 + p .0) b (p .2) in
+    let next : at + 1 + n ≡ at + suc n = omega arith in (
+      p .0 * 65536 ^ n + r .0,
+      getD s at 0 ∷ r .1,
+      piece (read-at s at (p .1) (λ x. apart x)) (r .2),
+      r .3 ∙ shifted bits (p .0) n (r .0),
+      front-is s at (piece-there s at (p .1)) ∙ ap (λ (l : List ℕ). getD s at 0 ∷ l) (r .4 ∙ ap (λ (i : ℕ). r .1 ++ drop i s) next),
+    )
+  where
+    apart : {p : ℕ} → W.Piece p ≡ W.Other → ⊥
+    apart x = let z : _≡_ {A = ℕ} 0 1 = cc in omega arith
+
+-- ---- a datum in a form with n pieces
+
+module _ (s : List ℕ) (k at f n : ℕ) (made : ℕ → D.Datum) (form : (i : ℕ) → byForm s i f ≡ formAt n made s i) where
+  pub form-reads : {w b : ℕ} {ws : List ℕ} (rest : List ℕ) → IsWord w (W.Datum k f) → InPieces n b ws → drop at s ≡ w ∷ (ws ++ rest) →
+      datumAt s k at ≡ R.the-variants.Datum (made b) (at + suc (length ws))
+  form-reads {w} {b} {ws} rest h p e =
+      let length-is = in-length p in
+      let next : at + 1 + n ≡ at + suc (length ws) = omega arith in
+      let value : 0 * 65536 ^ n + b ≡ b = none (65536 ^ n) in
+      sym (of-form s k at (front-reads s at w (ws ++ rest) e h) refl refl)
+      ∙ form (at + 1)
+      ∙ sym (form-is n made s (at + 1) (pieces-read p s (at + 1) rest (behind s at w (ws ++ rest) e) 0))
+      ∙ (λ i. R.the-variants.Datum (made (value i)) (next i))
+    where
+      none : (m : ℕ) → 0 * m + b ≡ b
+      none m = omega arith
+
+  pub form-written : {d : D.Datum} {next : ℕ} → wordAt s at ≡ W.Datum k f → byForm s (at + 1) f ≡ R.the-variants.Datum d next →
+      (b : ℕ) × (ws : List ℕ) × InPieces n b ws × (d ≡ made b) × (drop at s ≡ getD s at 0 ∷ (ws ++ drop next s)) × (next ≡ at + suc (length ws))
+  unfolding formAt
+  form-written {d} {next} word e = go (piecesAt s (at + 1) n 0) refl (sym (form (at + 1)) ∙ e)
+    where
+      here : at < length s
+      here = there s at (λ x. let z : _≡_ {A = ℕ} 0 1 = cc in omega arith)
+
+      go : (x : P.Pieces) → piecesAt s (at + 1) n 0 ≡ x → onPieces x made (at + 1 + n) ≡ R.the-variants.Datum d next →
+          (b : ℕ) × (ws : List ℕ) × InPieces n b ws × (d ≡ made b) × (drop at s ≡ getD s at 0 ∷ (ws ++ drop next s)) × (next ≡ at + suc (length ws))
+      go (P.the-variants.Bits b) q h =
+          let r = pieces-written s (at + 1) n 0 b q in
+          let m : made b ≡ d = cc in
+          let i : at + 1 + n ≡ next = cc in
+          let size = in-length (r .2) in
+          (r .0, r .1, r .2, sym m ∙ ap made (r .3 ∙ none (65536 ^ n) (r .0)), front-is s at here ∙ ap (λ (l : List ℕ). getD s at 0 ∷ l) (r .4 ∙ ap (λ (j : ℕ). r .1 ++ drop j s) i), omega arith)
+        where
+          none : (m l : ℕ) → 0 * m + l ≡ l
+          none m l = omega arith
+      go (P.the-variants.Bad place) q h = let z : _≡_ {A = ℕ} 0 1 = cc in absurd (never z)
+        where
+          never : _≡_ {A = ℕ} 0 1 → ⊥
+          never z = omega arith
+
+-- ---- a datum in whole units, within its range
+
+step-value : (s : List ℕ) (k at : ℕ) {d : D.Datum} {next : ℕ} {z : ℤ} → datumAt s k at ≡ R.the-variants.Datum d next → unitsOf d ≡ U.the-variants.Are z → T (inRange k z) →
+    stepAt s k at ≡ S.the-variants.Value z next
+step-value s k at {d} {next} {z} read units r = sym (by-units s k at read units) ∙ simp (is-true (inRange k z) r)
+
+pub written-reads : {k : ℕ} {z : ℤ} {w : List ℕ} → Written k z w → T (inRange k z) → (s : List ℕ) (at : ℕ) (rest : List ℕ) → drop at s ≡ w ++ rest →
+    stepAt s k at ≡ S.the-variants.Value z (at + length w)
+unfolding unitsOf
+written-reads {k} (whole h p) r s at rest e =
+    step-value s k at (form-reads s k at 0 2 (λ b. D.the-variants.Whole (twos 2147483648 b)) (λ i. refl) rest h p e) refl r
+written-reads {k} {z} (single {b} h p is) r s at rest e =
+    step-value s k at (form-reads s k at 1 2 (λ b. D.the-variants.Single (ofBits binary32 b)) (λ i. refl) rest h p e) (ap ofWhole (stands (ofBits binary32 b) z .1 is)) r
+written-reads {k} {z} (double {b} h p is) r s at rest e =
+    step-value s k at (form-reads s k at 2 4 (λ b. D.the-variants.Double (ofBits binary64 b)) (λ i. refl) rest h p e) (ap ofWhole (stands (ofBits binary64 b) z .1 is)) r
+
+-- the words of a datum that was read: those from `at` up to `next`
+pub record Wrote (s : List ℕ) (k at : ℕ) (z : ℤ) (next : ℕ) : Type 0 where
+  pub words : List ℕ
+  pub written : Written k z words
+  pub ranged : T (inRange k z)
+  pub here : drop at s ≡ words ++ drop next s
+  pub far : next ≡ at + length words
+
+never : {X : Type 0} → _≡_ {A = ℕ} 0 1 → X
+never z = absurd (go z)
+  where
+    go : _≡_ {A = ℕ} 0 1 → ⊥
+    go y = omega arith
+
+of-whole : (x : Float) (z : ℤ) → ofWhole (wholeOf x) ≡ U.the-variants.Are z → StandsFor x z
+of-whole x z = go (wholeOf x) refl
+  where
+    go : (v : H.Whole) → wholeOf x ≡ v → ofWhole v ≡ U.the-variants.Are z → StandsFor x z
+    go (H.the-variants.Is y) q e = let same : y ≡ z = cc in stands x z .0 (q ∙ ap H.the-variants.Is same)
+    go H.the-variants.Not q e = never (cc)
+
+pub read-written : (s : List ℕ) (k at : ℕ) (z : ℤ) (next : ℕ) → stepAt s k at ≡ S.the-variants.Value z next → Wrote s k at z next
+unfolding stepAt datumAt unitsOf
+read-written s k at z next = by-read (datumAt s k at) refl
+  where
+    made-by : (w : ℕ) (ws : List ℕ) → Written k z (w ∷ ws) → T (inRange k z) → drop at s ≡ w ∷ (ws ++ drop next s) → next ≡ at + suc (length ws) → Wrote s k at z next
+    made-by w ws x r h f = record { words = w ∷ ws; written = x; ranged = r; here = h; far = f }
+
+    word-is : {f : ℕ} → wordAt s at ≡ W.Datum k f → IsWord (getD s at 0) (W.Datum k f)
+    word-is h = read-at s at h (λ x. let y : _≡_ {A = ℕ} 0 1 = cc in omega arith)
+
+    by-form : (d : D.Datum) (f : ℕ) → wordAt s at ≡ W.Datum k f → byForm s (at + 1) f ≡ R.the-variants.Datum d next → unitsOf d ≡ U.the-variants.Are z → T (inRange k z) → Wrote s k at z next
+    by-form d zero word e u r =
+        let x = form-written s k at 0 2 (λ b. D.the-variants.Whole (twos 2147483648 b)) (λ i. refl) word e in
+        let is : twos 2147483648 (x .0) ≡ z = cc (ap unitsOf (x .3)) in
+        made-by (getD s at 0) (x .1) (subst (λ (y : ℤ). Written k y (getD s at 0 ∷ x .1)) is (whole (word-is word) (x .2))) r (x .4) (x .5)
+    by-form d (suc zero) word e u r =
+        let x = form-written s k at 1 2 (λ b. D.the-variants.Single (ofBits binary32 b)) (λ i. refl) word e in
+        made-by (getD s at 0) (x .1) (single (word-is word) (x .2) (of-whole (ofBits binary32 (x .0)) z (sym (ap unitsOf (x .3)) ∙ u))) r (x .4) (x .5)
+    by-form d (suc (suc zero)) word e u r =
+        let x = form-written s k at 2 4 (λ b. D.the-variants.Double (ofBits binary64 b)) (λ i. refl) word e in
+        made-by (getD s at 0) (x .1) (double (word-is word) (x .2) (of-whole (ofBits binary64 (x .0)) z (sym (ap unitsOf (x .3)) ∙ u))) r (x .4) (x .5)
+    by-form d (suc (suc (suc f))) word e u r = let is : D.the-variants.Open ≡ d = cc in never (cc (ap unitsOf is))
+
+    by-number : (d : D.Datum) (m f : ℕ) (t : Bool) → eqb m k ≡ t → wordAt s at ≡ W.Datum m f → cond t (byForm s (at + 1) f) (R.the-variants.Bad at) ≡ R.the-variants.Datum d next →
+        unitsOf d ≡ U.the-variants.Are z → T (inRange k z) → Wrote s k at z next
+    by-number d m f true q word e u r = by-form d f (word ∙ ap (λ (i : ℕ). W.Datum i f) (eqb-true m k q)) e u r
+    by-number d m f false q word e u r = never (cc)
+
+    by-datum : (d : D.Datum) → datumAt s k at ≡ R.the-variants.Datum d next → unitsOf d ≡ U.the-variants.Are z → T (inRange k z) → Wrote s k at z next
+    by-datum d e u r =
+        let x = is-datum (wordAt s at) (λ m f. cond (eqb m k) (byForm s (at + 1) f) (R.the-variants.Bad at)) (R.the-variants.Bad at) (R.the-variants.Datum d next) e (λ y. let y : _≡_ {A = ℕ} 0 1 = cc in omega arith) in
+        by-number d (x .0) (x .1) (eqb (x .0) k) refl (x .2) (x .3) u r
+
+    by-range : (d : D.Datum) (n : ℕ) (y : ℤ) (t : Bool) → inRange k y ≡ t → datumAt s k at ≡ R.the-variants.Datum d n → unitsOf d ≡ U.the-variants.Are y →
+        cond t (S.the-variants.Value y n) (S.the-variants.Refused 4 at) ≡ S.the-variants.Value z next → Wrote s k at z next
+    by-range d n y true q read u e =
+        let value : y ≡ z = cc in
+        let place : n ≡ next = cc in
+        by-datum d (read ∙ ap (R.the-variants.Datum d) place) (u ∙ ap U.the-variants.Are value) (subst (λ (v : ℤ). T (inRange k v)) value (subst T (sym q) tt))
+    by-range d n y false q read u e = never (cc)
+
+    by-unit : (d : D.Datum) (n : ℕ) (u : U.Units) → unitsOf d ≡ u → datumAt s k at ≡ R.the-variants.Datum d n → ofUnits k at n u ≡ S.the-variants.Value z next → Wrote s k at z next
+    by-unit d n (U.the-variants.Are y) q read e = by-range d n y (inRange k y) refl read q e
+    by-unit d n (U.the-variants.Refused i) q read e = never (cc)
+
+    by-read : (x : R.DatumRead) → datumAt s k at ≡ x → ofRead k at x ≡ S.the-variants.Value z next → Wrote s k at z next
+    by-read (R.the-variants.Datum d n) q e = by-unit d n (unitsOf d) refl q e
+    by-read (R.the-variants.Bad place) q e = never (cc)

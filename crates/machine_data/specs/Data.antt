@@ -1,0 +1,30 @@
+-- How a datum is read from the values of a list. In every list that is accepted a datum is read as it stands
+-- (proofs/Stands.antt); what no list can bring is read as the nearer end of its range, so that each channel has a next cycle.
+use Prim.Native.Nat.{ℕ, _<_}
+use mathlib.Core.List.{List}
+use mathlib.Core.Bool.{cond}
+use lib.ListN.{getD}
+use lib.IntN.{ℤ, pos, negsuc}
+use lib.Signed.{ltZ}
+use lib.Dec.{T, ltb}
+use Rattle.machine_data.specs.Table.{lowOf, highOf, inRange}
+
+-- z, or the nearer end
+unfoldable pub nearest : ℤ → ℤ → ℤ → ℤ
+nearest low high z = cond (ltZ z low) low (cond (ltZ high z) high z)
+
+-- datum k of the values d; 0 where there is none
+unfoldable pub datumOf : List ℤ → ℕ → ℤ
+datumOf d k = cond (ltb k 51) (nearest (lowOf k) (highOf k) (getD d k (pos 0))) (pos 0)
+
+abbrev pub size : ℤ → ℕ
+size (pos n) = n
+size (negsuc n) = 0
+
+-- datum k as a number
+unfoldable pub numberOf : List ℤ → ℕ → ℕ
+numberOf d k = size (datumOf d k)
+
+-- each datum lies within its range, as in every accepted list
+abbrev pub InRanges : List ℤ → Type 0
+InRanges d = (k : ℕ) → k < 51 → T (inRange k (getD d k (pos 0)))

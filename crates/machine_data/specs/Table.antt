@@ -1,0 +1,72 @@
+-- The ranges of the machine data: document 01, "Machine data".
+use Prim.Native.Nat.{ℕ}
+use mathlib.Core.List.{List, [], _∷_}
+use mathlib.Core.Bool.{Bool, cond, _&&_}
+use lib.IntN.{ℤ, pos, negsuc}
+use lib.Signed.{leZ}
+use lib.Dec.{leb, ltb}
+
+-- a row of the table: the data up to number `last`, from the row before on
+pub record Row : Type 0 where
+  pub last : ℕ
+  pub low : ℤ
+  pub high : ℤ
+
+abbrev pub to : ℕ → ℤ → ℕ → Row
+to last low high = record { last = last; low = low; high = pos high }
+
+-- "±100,000,000"
+abbrev pub position : ℕ → Row
+position last = to last (negsuc 99_999_999) 100_000_000
+
+-- one row of the paper a line
+abbrev pub rows : List Row
+rows =
+    -- T
+    to 0 (pos 1) 25
+    -- functions
+    ∷ to 1 (pos 0) 31
+    -- standstill tolerance
+    ∷ to 2 (pos 0) 100_000
+    -- limits SG1 to SG4
+    ∷ to 6 (pos 1) 1_000_000
+    -- stops of SG1 to SG4
+    ∷ to 10 (pos 1) 5
+    -- SE1 minus, SE1 plus, SE2 minus, SE2 plus
+    ∷ position 14
+    -- stop of SE
+    ∷ to 15 (pos 1) 3
+    -- cams SN1+, SN1-, SN2+ .. SN4-
+    ∷ position 23
+    -- cam tolerance
+    ∷ to 24 (pos 0) 100_000
+    -- nx
+    ∷ to 25 (pos 0) 1_000_000
+    -- allowed position difference
+    ∷ to 26 (pos 0) 100_000
+    -- delay of a lower selection; allowed input difference
+    ∷ to 28 (pos 0) 1_000
+    -- times of STOP C, D, E; B to A
+    ∷ to 32 (pos 0) 1_000
+    -- shutdown speed
+    ∷ to 33 (pos 0) 1_000_000
+    -- time from F to B
+    ∷ to 34 (pos 0) 1_000
+    -- override percent 0 to 15
+    ∷ to 50 (pos 1) 100
+    ∷ []
+
+-- the row of datum k: the first that goes as far
+abbrev pub rowOf : List Row → ℕ → Row
+rowOf [] k = to k (pos 0) 0
+rowOf (r ∷ rs) k = cond (leb k (r .last)) r (rowOf rs k)
+
+abbrev pub lowOf : ℕ → ℤ
+lowOf k = rowOf rows k .low
+
+abbrev pub highOf : ℕ → ℤ
+highOf k = rowOf rows k .high
+
+-- z may be datum k; "numbers 0 to 50"
+unfoldable pub inRange : ℕ → ℤ → Bool
+inRange k z = ltb k 51 && leZ (lowOf k) z && leZ z (highOf k)

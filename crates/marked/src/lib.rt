@@ -1,0 +1,1 @@
+// The cases that document 01 marks with P: a table in specs/ and its theorem in proofs/, about the definitions that the contracts cite.

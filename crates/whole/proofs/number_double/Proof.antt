@@ -1,0 +1,20 @@
+-- `whole::number_double` meets its contract, as its callees do theirs: the definition names the same fields. Assumes nothing.
+use mathlib.Core.Path.{_∙_}
+use borrow.Author.Needs.{needs}
+use Rattle.whole.proofs.number_double.Statement.{statement}
+use Rattle.whole.proofs.number_double.Tie as tie
+
+cast-field : tie.Need-cast-field
+cast-field c = search needs
+
+whole-part-requires : tie.Need-whole-part-requires
+whole-part-requires c κs = search needs
+
+with-sign-requires : tie.Need-with-sign-requires
+with-sign-requires c κs = search needs
+
+returns : tie.Need-returns
+returns c = search needs ∙ c .with-sign .ensures ∙ rw (c .before .whole-part .ensures .0)
+
+pub number-double-spec : {M : Type 1} → statement M
+number-double-spec = tie.close (tie.spec cast-field whole-part-requires with-sign-requires returns)

@@ -1,0 +1,3 @@
+pub mod Twos
+pub mod IsWord
+pub mod Cases

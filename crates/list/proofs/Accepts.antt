@@ -28,7 +28,8 @@ use Rattle.list.specs.declared.Step as S
 use Rattle.list.specs.Reading.{stepAt, acceptance, refusal, ends, onStep, gather, zeros, readList}
 use Rattle.list.specs.IsList.{DataFrom, end, datum, IsList, list}
 use Rattle.list.proofs.Steps.{ended-by, after-head}
-use Rattle.list.proofs.Written.{front-reads, front-is, written-reads, Wrote, read-written}
+use Rattle.words.proofs.Front.{front-reads, front-is}
+use Rattle.list.proofs.Written.{written-reads, Wrote, read-written}
 
 never : {X : Type 0} → _≡_ {A = ℕ} 0 1 → X
 never z = absurd (go z)

@@ -18,6 +18,7 @@ use Rattle.words.specs.declared.Word.the-variants as W
 use Rattle.words.specs.Words.{wordOf, wordAt, twos}
 use Rattle.words.specs.Cases.{ifPiece}
 use Rattle.words.specs.IsWord.{IsWord}
+use Rattle.words.proofs.Front.{behind, front-reads, front-is}
 use Rattle.words.proofs.IsWord.{reads, read-at}
 use Rattle.words.proofs.Cases.{there, is-datum}
 use Rattle.whole.specs.declared.Whole as H
@@ -36,27 +37,6 @@ use Rattle.list.specs.IsList.{InPieces, nothing, piece, Written, whole, 
 use Rattle.list.proofs.Joined.{piece-there, first-piece}
 use Rattle.list.proofs.Forms.{form-is, of-form}
 use Rattle.list.proofs.Steps.{by-units}
-
--- ---- the words from a place on
-
-pub present : (s : List ℕ) (at w : ℕ) (t : List ℕ) → drop at s ≡ w ∷ t → at < length s
-present s at w t e = go (length s) (sym (length-drop at s) ∙ ap length e)
-  where
-    go : (n : ℕ) → n - at ≡ suc (length t) → at < n
-    go n h = omega arith
-
-pub front-word : (s : List ℕ) (at w : ℕ) (t : List ℕ) → drop at s ≡ w ∷ t → getD s at 0 ≡ w
-front-word s at w t e = let c = drop-cons s at 0 (present s at w t e) in cc
-
-pub behind : (s : List ℕ) (at w : ℕ) (t : List ℕ) → drop at s ≡ w ∷ t → drop (at + 1) s ≡ t
-behind s at w t e = let c = drop-cons s at 0 (present s at w t e) in rw add-one (cc)
-
-pub front-reads : (s : List ℕ) (at w : ℕ) (t : List ℕ) {x : Word} → drop at s ≡ w ∷ t → IsWord w x → wordAt s at ≡ x
-unfolding wordAt
-front-reads s at w t e h = simp (lt-ltb at (length s) (present s at w t e)) (ap wordOf (front-word s at w t e) ∙ reads h)
-
-pub front-is : (s : List ℕ) (at : ℕ) → at < length s → drop at s ≡ getD s at 0 ∷ drop (at + 1) s
-front-is s at h = rw (add-one, drop-cons s at 0)
 
 -- ---- pieces
 

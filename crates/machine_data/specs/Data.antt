@@ -2,11 +2,12 @@
 -- (proofs/Stands.antt); what no list can bring is read as the nearer end of its range, so that each channel has a next cycle.
 use Prim.Native.Nat.{ℕ, _<_}
 use mathlib.Core.List.{List}
-use mathlib.Core.Bool.{cond}
+use mathlib.Core.Bool.{Bool, cond}
 use lib.ListN.{getD}
 use lib.IntN.{ℤ, pos, negsuc}
 use lib.Signed.{ltZ}
 use lib.Dec.{T, ltb}
+use Rattle.bits.specs.Bits.{bitOf}
 use Rattle.machine_data.specs.Table.{lowOf, highOf, inRange}
 
 -- z, or the nearer end
@@ -25,6 +26,14 @@ size (negsuc n) = 0
 unfoldable pub numberOf : List ℤ → ℕ → ℕ
 numberOf d k = size (datumOf d k)
 
+-- datum k as it stands; 0 where there is none
+abbrev pub entryOf : List ℤ → ℕ → ℤ
+entryOf d k = cond (ltb k 51) (getD d k (pos 0)) (pos 0)
+
 -- each datum lies within its range, as in every accepted list
 abbrev pub InRanges : List ℤ → Type 0
 InRanges d = (k : ℕ) → k < 51 → T (inRange k (getD d k (pos 0)))
+
+-- "functions; bit 0 SBH/SG, 1 SE, 2 cams, 3 n<nx, 4 external stops": function n is on
+unfoldable pub functionOf : List ℤ → ℕ → Bool
+functionOf d n = bitOf (numberOf d 1) n

@@ -2,7 +2,7 @@
 ghost use mathlib.Core.Path.{_≡_};
 ghost use Prim.Native.Nat.{_<_};
 ghost use Rattle.machine_data.specs.Table.{lowOf, highOf, inRange};
-ghost use Rattle.machine_data.specs.Data.{datumOf, numberOf};
+ghost use Rattle.machine_data.specs.Data.{datumOf, numberOf, entryOf, functionOf};
 
 // The 51 data of an accepted list; a count of 0 where there is no list.
 pub struct MachineData {
@@ -170,4 +170,18 @@ pub fn number(values: &[i32; 51], k: usize) -> u64
 {
     let z = datum(values, k);
     if z < 0 { 0 } else { z as u64 }
+}
+
+// Datum k as it stands, for a report and its comparison.
+pub fn entry(values: &[i32; 51], k: usize) -> i32
+    ensures { λ r. ⌜ r ≡ entryOf (now (values .entry)) k ⌝ }
+{
+    if k < 51 { values[k] } else { 0 }
+}
+
+// Whether function n is on.
+pub fn function(values: &[i32; 51], n: u32) -> bool
+    ensures { λ r. ⌜ r ≡ functionOf (now (values .entry)) n ⌝ }
+{
+    bits::bit(number(values, 1) as u32, n)
 }

@@ -1,17 +1,36 @@
--- Document 01, "Marked P": one table of worked cases.
-use Prim.Native.Nat.{ℕ}
+-- Document 01, "Marked P": one table of worked cases. "T is 12".
+use Prim.Native.Nat.{ℕ, suc}
+use mathlib.Core.Bool.{Bool, true, false}
 use mathlib.Core.List.{List, [], _∷_}
 use mathlib.Core.Path.{_≡_}
-use lib.IntN.{pos}
+use lib.IntN.{ℤ, pos, negsuc}
 use lib.Ieee.{binary32, ofBits}
+use Rattle.bits.specs.Bits.{flag}
 use Rattle.list.specs.declared.Datum.the-variants.{Single}
 use Rattle.list.specs.declared.Units.{Units}
 use Rattle.list.specs.declared.Units.the-variants.{Are, Refused}
 use Rattle.list.specs.Datum.{unitsOf}
+use Rattle.selection.specs.declared.Selection.{Selection}
+use Rattle.selection.specs.declared.Selection.the-variants.{Nothing, Sbh}
+use Rattle.stop.specs.Stop.{levelOf}
+use Rattle.causes.specs.Listed.{wanted}
+use Rattle.channel.specs.declared.State.{State}
+use Rattle.channel.specs.Causes.{rowsOf}
+use Rattle.channel.specs.Cycle.{freshState, next}
+use Rattle.marked.specs.Runs.{Entry, is, listOf, Brief, alike, apart, given, stateAfter, times}
+
+-- what a cycle shows: whether a cause stands, the rank after it, the effective selection, F
+pub data Shown : Type 0 where
+  cause : ℕ → Bool → Shown
+  rank : ℕ → Shown
+  effective : Selection → Shown
+  fault : Bool → Shown
 
 pub data Case : Type 0 where
   -- the pattern of a binary32, and what the list reader makes of it
   binary32-is : ℕ → Units → Case
+  -- a list, the cycles before, a cycle, and what it shows
+  cycle : List Entry → List Brief → Brief → Shown → Case
 
 -- a row: the number behind P, and the case
 pub record Row : Type 0 where
@@ -21,17 +40,68 @@ pub record Row : Type 0 where
 abbrev pub P : ℕ → Case → Row
 P n c = record { number = n; case = c }
 
-abbrev pub table : List Row
-table =
-    -- "P9 binary32 44FA0000 is 2000"
-    P 9 (binary32-is 0x44fa0000 (Are (pos 2000)))
-    -- "P10 3F000000 is refused 3"
-    ∷ P 10 (binary32-is 0x3f000000 (Refused 3))
-    ∷ []
+abbrev pub shows : List ℤ → State → Brief → Shown → Type 0
+shows d s b (cause x stands) = wanted x (rowsOf d s (given d (s .k) b)) ≡ flag stands
+shows d s b (rank n) = levelOf (next d s (given d (s .k) b) .stop) ≡ n
+shows d s b (effective e) = next d s (given d (s .k) b) .choice .effective ≡ e
+shows d s b (fault f) = next d s (given d (s .k) b) .fault .on ≡ f
 
 abbrev pub Holds : Case → Type 0
 Holds (binary32-is bits units) = unitsOf (Single (ofBits binary32 bits)) ≡ units
+Holds (cycle es before b shown) = shows (listOf es) (stateAfter (listOf es) freshState before) b shown
 
 abbrev pub AllHold : List Row → Type 0
 AllHold [] = Unit {0}
 AllHold (r ∷ rs) = Holds (r .case) × AllHold rs
+
+-- input words: SG1 and SG2 with override 0, SBH, nothing; external C and E asked for, A and D not
+abbrev pub sg1 : ℕ
+sg1 = 2
+
+abbrev pub sg2 : ℕ
+sg2 = 0x0a
+
+abbrev pub sbh : ℕ
+sbh = 0
+
+abbrev pub off : ℕ
+off = 1
+
+abbrev pub stop-c-and-e : ℕ
+stop-c-and-e = 0x140001
+
+-- the first cycle at 0, the second at a position
+abbrev pub steps : List Entry → ℕ → ℤ → Shown → Case
+steps es w p shown = cycle es (alike (pos 0) w ∷ []) (alike p w) shown
+
+abbrev pub table : List Row
+table =
+    -- "P1 SG1 2000: d 400 passes. P2 401 doesn't"
+    P 1 (steps (is 0 12 ∷ is 1 1 ∷ is 3 2000 ∷ []) sg1 (pos 400) (cause 3 false))
+    ∷ P 2 (steps (is 0 12 ∷ is 1 1 ∷ is 3 2000 ∷ []) sg1 (pos 401) (cause 3 true))
+    -- "P3 SG2 2000 at 50 percent: 200 passes. P4 201 doesn't"
+    ∷ P 3 (steps (is 0 12 ∷ is 1 1 ∷ is 4 2000 ∷ is 35 50 ∷ []) sg2 (pos 200) (cause 3 false))
+    ∷ P 4 (steps (is 0 12 ∷ is 1 1 ∷ is 4 2000 ∷ is 35 50 ∷ []) sg2 (pos 201) (cause 3 true))
+    -- "P5 tolerance 10: 10 away passes, -11 not"
+    ∷ P 5 (steps (is 0 12 ∷ is 1 1 ∷ is 2 10 ∷ []) sbh (pos 10) (cause 2 false))
+    ∷ P 5 (steps (is 0 12 ∷ is 1 1 ∷ is 2 10 ∷ []) sbh (negsuc 10) (cause 2 true))
+    -- "P6 SE plus 5000: 5000 passes. P7 5001 doesn't"
+    ∷ P 6 (steps (is 0 12 ∷ is 1 2 ∷ is 12 5000 ∷ []) off (pos 5000) (cause 4 false))
+    ∷ P 7 (steps (is 0 12 ∷ is 1 2 ∷ is 12 5000 ∷ []) off (pos 5001) (cause 4 true))
+    -- "P8 100,000,001 is unusable"
+    ∷ P 8 (steps (is 0 12 ∷ []) off (pos 100_000_001) (cause 1 true))
+    -- "P9 binary32 44FA0000 is 2000"
+    ∷ P 9 (binary32-is 0x44fa0000 (Are (pos 2000)))
+    -- "P10 3F000000 is refused 3"
+    ∷ P 10 (binary32-is 0x3f000000 (Refused 3))
+    -- "P11 E and C together: C"
+    ∷ P 11 (cycle (is 0 12 ∷ is 1 16 ∷ is 29 5 ∷ is 31 5 ∷ []) [] (alike (pos 0) stop-c-and-e) (rank 3))
+    -- "P12 B time 0: A that cycle"
+    ∷ P 12 (steps (is 0 12 ∷ is 1 1 ∷ is 2 10 ∷ is 32 0 ∷ []) sbh (pos 11) (rank 5))
+    -- "P13 delay 3, lowered in cycle 10: binds in 13"
+    ∷ P 13 (cycle (is 0 12 ∷ is 1 1 ∷ is 27 3 ∷ []) (times 9 (alike (pos 0) off) (times 2 (alike (pos 0) sbh) [])) (alike (pos 0) sbh) (effective Nothing))
+    ∷ P 13 (cycle (is 0 12 ∷ is 1 1 ∷ is 27 3 ∷ []) (times 9 (alike (pos 0) off) (times 3 (alike (pos 0) sbh) [])) (alike (pos 0) sbh) (effective Sbh))
+    -- "P14 allowed 2, inputs differ in 5, 6, 7: F in 7"
+    ∷ P 14 (cycle (is 0 12 ∷ is 28 2 ∷ []) (times 4 (alike (pos 0) off) (apart off sbh ∷ [])) (apart off sbh) (fault false))
+    ∷ P 14 (cycle (is 0 12 ∷ is 28 2 ∷ []) (times 4 (alike (pos 0) off) (apart off sbh ∷ apart off sbh ∷ [])) (apart off sbh) (fault true))
+    ∷ []

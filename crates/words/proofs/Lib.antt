@@ -1,3 +1,4 @@
 pub mod Twos
 pub mod IsWord
 pub mod Cases
+pub mod Front

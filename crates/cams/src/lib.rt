@@ -1,0 +1,35 @@
+// Step 6 of a cycle: the cam signals.
+ghost use mathlib.Core.Path.{_≡_};
+ghost use Rattle.cams.specs.Cams.{camOf, camsUpTo, camsNext};
+use inputs::Reading;
+
+// The signal of cam n, in data order: 1 above the edge and its tolerance, 0 below the edge, else as before.
+fn cam(machine: &[i32; 51], reading: Reading, n: usize, before: bool) -> bool
+    ensures { λ r. ⌜ r ≡ camOf (now (machine .entry)) (reading .position) n before ⌝ }
+{
+    let edge = machine_data::datum(machine, 16 + n % 8) as i64;
+    let tolerance = machine_data::datum(machine, 24) as i64;
+    let position = reading.position as i64;
+    if edge + tolerance < position {
+        return true;
+    }
+    if position < edge {
+        return false;
+    }
+    before
+}
+
+// The eight signals as the bits of a number, the first lowest.
+pub fn next(machine: &[i32; 51], reading: Reading, before: u8) -> u8
+    ensures { λ r. ⌜ r ≡ camsNext (now (machine .entry)) (reading .position) before ⌝ }
+{
+    let mut signals = 0u32;
+    let mut n = 0u32;
+    while n < 8 {
+        if cam(machine, reading, n as usize, bits::bit(before as u32, n)) {
+            signals += 1 << n;
+        }
+        n += 1;
+    }
+    signals as u8
+}

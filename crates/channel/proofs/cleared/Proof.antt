@@ -1,0 +1,13 @@
+-- `channel::cleared` meets its contract. Assumes nothing.
+use borrow.Author.Needs.{needs}
+use Rattle.channel.proofs.cleared.Statement.{statement}
+use Rattle.channel.proofs.cleared.Tie as tie
+
+returns : tie.Need-returns
+returns c = simp (c .if1 .taken)
+
+returns-2 : tie.Need-returns-2
+returns-2 c = search needs
+
+pub cleared-spec : {M : Type 1} → statement M
+cleared-spec = tie.close (tie.spec returns returns-2)

@@ -1,0 +1,4 @@
+pub mod Causes
+pub mod Cycle
+pub mod Word
+pub mod Ensures

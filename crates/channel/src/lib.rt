@@ -1,0 +1,376 @@
+// One cycle of a channel, steps 1 to 6, and its channel word.
+ghost use mathlib.Core.Path.{_≡_};
+ghost use mathlib.Core.Bool.{not, _&&_, _||_};
+ghost use Rattle.causes.specs.Causes.{noTally, tallied};
+ghost use Rattle.channel.specs.Causes.{movedOf, limitRows, externalRows, comparedBy, judgedOf};
+ghost use Rattle.channel.specs.Cycle.{freshChannel, reportOf, nextK, clearedFault, steppedOf, unusableNext};
+ghost use Rattle.channel.specs.Word.{wordOf};
+ghost use Rattle.channel.specs.Ensures.{StepEnsures, CycleEnsures};
+use causes::Cause;
+use causes::Causes;
+use causes::Tally;
+use comparison::Fault;
+use inputs::Reading;
+use inputs::Report;
+use machine_data::MachineData;
+use selection::Choice;
+use selection::Selection;
+use stop::Rank;
+use stop::Stop;
+
+pub enum Previous {
+    Nowhere,
+    At(i32),
+}
+
+// What a cycle changes.
+pub struct State {
+    // the number of the datum that this cycle reports
+    pub k: u8,
+    pub previous: Previous,
+    pub choice: Choice,
+    // usable cycles running in which the input words differ
+    pub differing: u64,
+    pub fault: Fault,
+    pub stop: Stop,
+    // the cam signals as bits, in data order
+    pub cams: u8,
+}
+
+pub struct Channel {
+    pub machine: MachineData,
+    pub state: State,
+}
+
+// What a channel is given in a cycle.
+pub struct Given {
+    pub reading: Reading,
+    pub acknowledged: bool,
+    pub report: Report,
+}
+
+// What steps 2 to 4 find.
+pub struct Judged {
+    pub moved: u32,
+    pub choice: Choice,
+    pub differing: u64,
+    pub fault: Fault,
+    pub tally: Tally,
+}
+
+// What a cycle gives: the state after it, its word and its causes.
+pub struct Outcome {
+    pub state: State,
+    pub word: u32,
+    pub causes: Causes,
+}
+
+pub struct ChannelOutcome {
+    pub channel: Channel,
+    pub word: u32,
+    pub causes: Causes,
+}
+
+// |d|, 0 if there is no previous position.
+fn moved(previous: Previous, reading: Reading) -> u32
+    ensures { λ r. ⌜ r ≡ movedOf previous (reading .position) ⌝ }
+{
+    match previous {
+        Previous::Nowhere => 0,
+        Previous::At(p) => distance::distance(reading.position, p),
+    }
+}
+
+fn limit_tally(machine: &[i32; 51], choice: Choice, reading: Reading, moved: u32) -> Tally
+    ensures { λ r. ⌜ r ≡ tallied (limitRows (now (machine .entry)) choice reading moved) noTally ⌝ }
+{
+    let effective = choice.effective;
+    let a = Tally::new().add(Cause {
+        code: 2,
+        stands: limits::standstill(machine, choice, reading),
+        rank: Rank::B,
+    });
+    let b = a.add(Cause {
+        code: 3,
+        stands: limits::over_speed(machine, effective, moved),
+        rank: limits::sg_rank(machine, effective),
+    });
+    b.add(Cause {
+        code: 4,
+        stands: limits::outside(machine, reading),
+        rank: Rank::from_number(machine_data::number(machine, 15)),
+    })
+}
+
+fn externals(before: Tally, machine: &[i32; 51], reading: Reading) -> Tally
+    ensures { λ r. ⌜ r ≡ tallied (externalRows (now (machine .entry)) (reading .inputs)) before ⌝ }
+{
+    let a = before.add(Cause {
+        code: 5,
+        stands: limits::external(machine, reading, 18),
+        rank: Rank::A,
+    });
+    let c = a.add(Cause {
+        code: 6,
+        stands: limits::external(machine, reading, 19),
+        rank: Rank::C,
+    });
+    let d = c.add(Cause {
+        code: 7,
+        stands: limits::external(machine, reading, 20),
+        rank: Rank::D,
+    });
+    d.add(Cause {
+        code: 8,
+        stands: limits::external(machine, reading, 21),
+        rank: Rank::E,
+    })
+}
+
+// Causes 9 to 13 by whether each stands.
+fn compared(
+    before: Tally,
+    slipped: bool,
+    position: bool,
+    inputs: bool,
+    datum: bool,
+    expired: bool,
+) -> Tally
+    ensures { λ r. ⌜ r ≡ tallied (comparedBy slipped position inputs datum expired) before ⌝ }
+{
+    let a = before.add(Cause {
+        code: 9,
+        stands: slipped,
+        rank: Rank::B,
+    });
+    let b = a.add(Cause {
+        code: 10,
+        stands: position,
+        rank: Rank::None,
+    });
+    let c = b.add(Cause {
+        code: 11,
+        stands: inputs,
+        rank: Rank::None,
+    });
+    let d = c.add(Cause {
+        code: 12,
+        stands: datum,
+        rank: Rank::None,
+    });
+    d.add(Cause {
+        code: 13,
+        stands: expired,
+        rank: Rank::B,
+    })
+}
+
+fn any_of(a: bool, b: bool, c: bool) -> bool
+    ensures { λ r. ⌜ r ≡ (a || b || c) ⌝ }
+{
+    if a {
+        true
+    } else if b {
+        true
+    } else {
+        c
+    }
+}
+
+// Steps 2 to 4.
+fn judge(machine: &[i32; 51], state: State, given: Given) -> Judged
+    ensures { λ r. ⌜ r ≡ judgedOf (now (machine .entry)) state given ⌝ }
+{
+    let reading = given.reading;
+    let report = given.report;
+    let previous = state.previous;
+    let before = state.choice;
+    let stop = state.stop;
+    let fault = state.fault;
+    let moved = moved(previous, reading);
+    let choice = before.next(
+        machine,
+        selection::selected(machine, reading.inputs),
+        reading,
+    );
+    let position = comparison::position_differs(machine, reading, report);
+    let differing = comparison::run(state.differing, reading, report);
+    let inputs = comparison::inputs_differ(machine, differing);
+    let datum = comparison::datum_differs(machine, state.k as usize, report);
+    let after = fault.next(machine, any_of(position, inputs, datum));
+    let limited = limit_tally(machine, choice, reading, moved);
+    let external = externals(limited, machine, reading);
+    let tally = compared(
+        external,
+        limits::slipped(machine, stop, reading),
+        position,
+        inputs,
+        datum,
+        after.expired(),
+    );
+    Judged {
+        moved,
+        choice,
+        differing,
+        fault: after,
+        tally,
+    }
+}
+
+fn next_k(k: u8) -> u8
+    ensures { λ r. ⌜ r ≡ nextK k ⌝ }
+{
+    if k < 50 { k + 1 } else { 0 }
+}
+
+fn clears(acknowledged: bool, fresh: bool) -> bool
+    ensures { λ r. ⌜ r ≡ (acknowledged && not fresh) ⌝ }
+{
+    if acknowledged { !fresh } else { false }
+}
+
+fn cleared(clears: bool, fault: Fault) -> Fault
+    ensures { λ r. ⌜ r ≡ clearedFault clears fault ⌝ }
+{
+    if clears {
+        Fault { on: false, left: 0 }
+    } else {
+        fault
+    }
+}
+
+// Steps 5 and 6.
+fn stepped(machine: &[i32; 51], state: State, given: Given, judged: Judged) -> State
+    ensures { λ r. ⌜ r ≡ steppedOf (now (machine .entry)) state given judged ⌝ }
+{
+    let reading = given.reading;
+    let tally = judged.tally;
+    let strongest = tally.strongest;
+    let stop = state.stop;
+    let fault = judged.fault;
+    let choice = judged.choice;
+    let clears = clears(given.acknowledged, tally.fresh);
+    let slow = speed::below(machine, judged.moved, 33);
+    let after = stop.next(machine, clears, strongest, slow, reading);
+    State {
+        k: next_k(state.k),
+        previous: Previous::At(reading.position),
+        choice,
+        differing: judged.differing,
+        fault: cleared(clears, fault),
+        stop: after,
+        cams: cams::next(machine, reading, state.cams),
+    }
+}
+
+// Step 1, where the inputs are unusable.
+fn unusable(state: State) -> State
+    ensures { λ r. ⌜ r ≡ unusableNext state ⌝ }
+{
+    let choice = state.choice;
+    let fault = state.fault;
+    State {
+        k: next_k(state.k),
+        previous: Previous::Nowhere,
+        choice,
+        differing: state.differing,
+        fault,
+        stop: Stop::Cancelled,
+        cams: state.cams,
+    }
+}
+
+// The channel word of a state.
+fn word(machine: &[i32; 51], state: State, slow: bool) -> u32
+    ensures { λ r. ⌜ r ≡ wordOf (now (machine .entry)) state slow ⌝ }
+{
+    let choice = state.choice;
+    let effective = choice.effective;
+    let stop = state.stop;
+    let fault = state.fault;
+    channel_word::channel_word(machine, effective, stop, fault.on, state.cams, slow)
+}
+
+// A cycle of a state beside its data.
+pub fn step(machine: &[i32; 51], state: State, given: Given) -> Outcome
+    ensures { λ r. ⌜ StepEnsures (now (machine .entry)) state given r ⌝ }
+{
+    let reading = given.reading;
+    if inputs::usable(reading) {
+        let judged = judge(machine, state, given);
+        let tally = judged.tally;
+        let causes = tally.causes;
+        let after = stepped(machine, state, given, judged);
+        Outcome {
+            state: after,
+            word: word(machine, after, speed::below(machine, judged.moved, 25)),
+            causes,
+        }
+    } else {
+        let tally = Tally::new().add(Cause {
+            code: 1,
+            stands: true,
+            rank: Rank::A,
+        });
+        let causes = tally.causes;
+        let after = unusable(state);
+        Outcome {
+            state: after,
+            word: word(machine, after, false),
+            causes,
+        }
+    }
+}
+
+// A fresh channel with the data of a list.
+pub fn fresh(machine: MachineData) -> Channel
+    ensures { λ r. ⌜ r ≡ freshChannel machine ⌝ }
+{
+    Channel {
+        machine,
+        state: State {
+            k: 0,
+            previous: Previous::Nowhere,
+            choice: Choice {
+                chosen: false,
+                effective: Selection::Nothing,
+                reference: 0,
+                left: 0,
+            },
+            differing: 0,
+            fault: Fault { on: false, left: 0 },
+            stop: Stop::Free,
+            cams: 0,
+        },
+    }
+}
+
+// What a channel reports of a cycle, before it.
+pub fn report(machine: &[i32; 51], state: State, reading: Reading) -> Report
+    ensures { λ r. ⌜ r ≡ reportOf (now (machine .entry)) state reading ⌝ }
+{
+    Report {
+        position: reading.position,
+        inputs: reading.inputs,
+        datum: machine_data::entry(machine, state.k as usize),
+    }
+}
+
+// A cycle of a channel.
+pub fn cycle(channel: Channel, given: Given) -> ChannelOutcome
+    ensures { λ r. ⌜ CycleEnsures channel given r ⌝ }
+{
+    let machine = channel.machine;
+    let state = channel.state;
+    let outcome = step(&machine.values, state, given);
+    let after = outcome.state;
+    let causes = outcome.causes;
+    ChannelOutcome {
+        channel: Channel {
+            machine,
+            state: after,
+        },
+        word: outcome.word,
+        causes,
+    }
+}

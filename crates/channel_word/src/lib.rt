@@ -1,0 +1,109 @@
+// The channel word.
+ghost use mathlib.Core.Path.{_≡_};
+ghost use Rattle.bits.specs.Bits.{flag};
+ghost use Rattle.channel_word.specs.Word.{isEffective, shownSg, isHeld, shownCams, shownSlow, placed, Parts, wordBy};
+use selection::Selection;
+use stop::Stop;
+
+fn flag(b: bool) -> u8
+    ensures { λ r. ⌜ r ≡ flag b ⌝ }
+{
+    if b { 1 } else { 0 }
+}
+
+fn is_effective(s: Selection) -> bool
+    ensures { λ r. ⌜ r ≡ isEffective s ⌝ }
+{
+    match s {
+        Selection::Nothing => false,
+        Selection::Sg(_, _) => true,
+        Selection::Sbh => true,
+    }
+}
+
+fn shown_sg(s: Selection) -> u8
+    ensures { λ r. ⌜ r ≡ shownSg s ⌝ }
+{
+    match s {
+        Selection::Nothing => 0,
+        Selection::Sg(n, _) => n % 4,
+        Selection::Sbh => 0,
+    }
+}
+
+fn is_held(s: Stop) -> bool
+    ensures { λ r. ⌜ r ≡ isHeld s ⌝ }
+{
+    match s {
+        Stop::Free => false,
+        Stop::Braking(_, _) => false,
+        Stop::Held(_, _) => true,
+        Stop::Cancelled => false,
+    }
+}
+
+// The cams, while their function is on.
+fn shown_cams(machine: &[i32; 51], cams: u8) -> u8
+    ensures { λ r. ⌜ r ≡ shownCams (now (machine .entry)) cams ⌝ }
+{
+    if machine_data::function(machine, 2) {
+        cams
+    } else {
+        0
+    }
+}
+
+// n<nx, while its function is on.
+fn shown_slow(machine: &[i32; 51], slow: bool) -> bool
+    ensures { λ r. ⌜ r ≡ shownSlow (now (machine .entry)) slow ⌝ }
+{
+    if machine_data::function(machine, 3) {
+        slow
+    } else {
+        false
+    }
+}
+
+// The parts at their places.
+fn placed(
+    effective: u8,
+    cancelled: u8,
+    cams: u8,
+    sg: u8,
+    slow: u8,
+    rank: u8,
+    held: u8,
+    fault: u8,
+) -> u32
+    requires { ⌜ Parts effective cancelled sg slow rank held fault ⌝ }
+    ensures { λ r. ⌜ r ≡ placed effective cancelled cams sg slow rank held fault ⌝ }
+{
+    let low = (effective as u32) + 4 * (cancelled as u32) + 128 + 256 * (cams as u32);
+    let middle = 524288 * (sg as u32) + 2097152 * (slow as u32);
+    let high = 16777216 * (rank as u32) + 134217728 * (held as u32) + 268435456 * (fault as u32);
+    low + middle + high
+}
+
+// The word of what a cycle leaves: the effective selection, the stop, F, the cams, and whether the axis is below nx.
+pub fn channel_word(
+    machine: &[i32; 51],
+    effective: Selection,
+    stop: Stop,
+    fault: bool,
+    cams: u8,
+    slow: bool,
+) -> u32
+    ensures { λ r. ⌜ r ≡ wordBy (now (machine .entry)) effective stop fault cams slow ⌝ }
+{
+    let rank = stop.rank().number();
+    placed(
+        flag(is_effective(effective)),
+        flag(rank == 5),
+        shown_cams(machine, cams),
+        shown_sg(effective),
+        flag(shown_slow(machine, slow)),
+        rank,
+        flag(is_held(stop)),
+        flag(fault),
+    )
+}

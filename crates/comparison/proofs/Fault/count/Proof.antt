@@ -1,0 +1,24 @@
+-- `comparison::Fault::count` meets its contract, by its two tests. Assumes nothing.
+use mathlib.Core.Path.{_∙_}
+use native.Mathlib.Omega.{arith}
+use borrow.Author.Needs.{needs}
+use Rattle.comparison.proofs.Fault.count.Statement.{statement}
+use Rattle.comparison.proofs.Fault.count.Tie as tie
+
+number-requires : tie.Need-number-requires
+number-requires c κs = search needs
+
+sub-result : tie.Need-sub-result
+sub-result c = search needs
+
+returns : tie.Need-returns
+returns c = c .number .ensures ∙ simp (c .before .if1 .taken)
+
+returns-2 : tie.Need-returns-2
+returns-2 c = simp (c .before .if1 .left) (omega arith)
+
+returns-3 : tie.Need-returns-3
+returns-3 c = simp (c .before .if1 .left)
+
+pub count-spec : {M : Type 1} → statement M
+count-spec = tie.close (tie.spec number-requires sub-result returns returns-2 returns-3)

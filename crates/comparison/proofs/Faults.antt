@@ -1,0 +1,74 @@
+-- What a cycle makes of the run of differing input words and of F, by the cases of their definitions. Assumes nothing.
+use Prim.Native.Nat.{ℕ, _+_, _-_, _≤_, _<_, min}
+use mathlib.Core.Bool.{Bool, true, false, cond, _||_}
+use mathlib.Core.List.{List}
+use mathlib.Core.Path.{_≡_, refl, _∙_}
+use native.Mathlib.Omega.{arith}
+use borrow.Author.Tests.{eq-eqb, ne-eqb}
+use lib.Dec.{eqb}
+use lib.IntN.{ℤ}
+use Rattle.inputs.specs.declared.Reading.{Reading}
+use Rattle.inputs.specs.declared.Report.{Report}
+use Rattle.machine_data.specs.Data.{numberOf}
+use Rattle.comparison.specs.declared.Fault.{Fault}
+use Rattle.comparison.specs.Comparison.{runOf, faultNext, expired}
+
+-- the run of cycles in which the input words differ
+module _ (before : ℕ) (r : Reading) (o : Report) where
+  pub run-most : runOf before r o ≤ 1001
+  unfolding runOf
+  run-most = go (eqb (r .inputs) (o .inputs))
+    where
+      go : (t : Bool) → cond t 0 (min (before + 1) 1001) ≤ 1001
+      go true = omega arith
+      go false = omega arith
+
+  pub run-ends : r .inputs ≡ o .inputs → runOf before r o ≡ 0
+  unfolding runOf
+  run-ends e = rw (eq-eqb (r .inputs) (o .inputs) e)
+
+  pub run-grows : (r .inputs ≡ o .inputs → ⊥) → before < 1001 → runOf before r o ≡ before + 1
+  unfolding runOf
+  run-grows e h = rw (ne-eqb (r .inputs) (o .inputs) e) (omega arith)
+
+module _ (d : List ℤ) (differs : Bool) (f : Fault) where
+  -- "10, 11, 12 set F": it is on after a cycle where it was on or one of them stands
+  pub fault-on : faultNext d differs f .on ≡ (f .on || differs)
+  unfolding faultNext
+  fault-on = go (f .on)
+    where
+      go : (t : Bool) → cond {A = Fault} t (record { on = true; left = f .left - 1 }) (record { on = differs; left = cond differs (numberOf d 34) 0 }) .on ≡ (t || differs)
+      go true = refl
+      go false = refl
+
+  -- "the count falls in later usable cycles", whether or not the channels differ again
+  pub fault-later : f .on ≡ true → faultNext d differs f .left ≡ f .left - 1
+  unfolding faultNext
+  fault-later e = rw e
+
+  pub expired-later : f .on ≡ true → f .left ≤ 1 → expired (faultNext d differs f) ≡ true
+  unfolding faultNext expired
+  expired-later e h = rw e (eq-eqb (f .left - 1) 0 (omega arith))
+
+  pub waits : f .on ≡ true → 1 < f .left → expired (faultNext d differs f) ≡ false
+  unfolding faultNext expired
+  waits e h = rw e (ne-eqb (f .left - 1) 0 (omega arith))
+
+module _ (d : List ℤ) (f : Fault) (off : f .on ≡ false) where
+  -- "if F is new, its count to datum 34"
+  pub fault-new : faultNext d true f .left ≡ numberOf d 34
+  unfolding faultNext
+  fault-new = rw off
+
+  -- "at 0, with F on, stands cause 13": in the cycle that sets F exactly where datum 34 is 0
+  pub expired-new : expired (faultNext d true f) ≡ eqb (numberOf d 34) 0
+  unfolding faultNext expired
+  expired-new = rw off
+
+  pub expired-at-once : numberOf d 34 ≡ 0 → expired (faultNext d true f) ≡ true
+  expired-at-once e = expired-new ∙ eq-eqb (numberOf d 34) 0 e
+
+  -- cause 13 does not stand without F
+  pub expired-not : expired f ≡ false
+  unfolding expired
+  expired-not = rw off

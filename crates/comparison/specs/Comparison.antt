@@ -1,0 +1,36 @@
+-- Causes 10 to 13, and F: document 01, step 4.
+use Prim.Native.Nat.{ℕ, _+_, _-_, min}
+use mathlib.Core.Bool.{Bool, true, cond, _&&_}
+use mathlib.Core.List.{List}
+use lib.IntN.{ℤ, natAbs, _-ℤ_}
+use lib.Dec.{ltb, eqb}
+use Rattle.machine_data.specs.Data.{numberOf, entryOf}
+use Rattle.inputs.specs.declared.Reading.{Reading}
+use Rattle.inputs.specs.declared.Report.{Report}
+use Rattle.comparison.specs.declared.Fault.{Fault}
+
+-- "10 position differs from the report by more than datum 26"
+unfoldable pub positionDiffers : List ℤ → Reading → Report → Bool
+positionDiffers d r o = ltb (numberOf d 26) (natAbs (r .position -ℤ o .position))
+
+-- "usable cycles running" in which the input words differ; not counted past 1,001, which is above every datum 28
+unfoldable pub runOf : ℕ → Reading → Report → ℕ
+runOf before r o = cond (eqb (r .inputs) (o .inputs)) 0 (min (before + 1) 1001)
+
+-- "11 input words differ in more than datum 28 usable cycles running"
+unfoldable pub inputsDiffer : List ℤ → ℕ → Bool
+inputsDiffer d run = ltb (numberOf d 28) run
+
+-- "12 datum k differs"
+unfoldable pub datumDiffers : List ℤ → ℕ → Report → Bool
+datumDiffers d k o = ltb 0 (natAbs (entryOf d k -ℤ o .datum))
+
+-- "10, 11, 12 set F and, if F is new, its count to datum 34; the count falls in later usable cycles"
+unfoldable pub faultNext : List ℤ → Bool → Fault → Fault
+faultNext d differs f =
+    cond (f .on) (record { on = true; left = f .left - 1 })
+    (record { on = differs; left = cond differs (numberOf d 34) 0 })
+
+-- "at 0, with F on, stands cause 13"
+unfoldable pub expired : Fault → Bool
+expired f = f .on && eqb (f .left) 0

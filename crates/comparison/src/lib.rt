@@ -1,0 +1,88 @@
+// The crosswise comparison of the channels, causes 10 to 13: what differs, and F with its time to B.
+ghost use mathlib.Core.Path.{_≡_};
+ghost use mathlib.Core.Bool.{cond};
+ghost use Prim.Native.Nat.{_-_};
+ghost use Rattle.machine_data.specs.Data.{numberOf};
+ghost use Rattle.comparison.specs.Comparison.{positionDiffers, runOf, inputsDiffer, datumDiffers, faultNext, expired};
+use inputs::Reading;
+use inputs::Report;
+
+// F, and the cycles left to cause 13.
+pub struct Fault {
+    pub on: bool,
+    pub left: u64,
+}
+
+// Cause 10.
+pub fn position_differs(machine: &[i32; 51], reading: Reading, report: Report) -> bool
+    ensures { λ r. ⌜ r ≡ positionDiffers (now (machine .entry)) reading report ⌝ }
+{
+    machine_data::number(machine, 26)
+        < (distance::distance(reading.position, report.position) as u64)
+}
+
+// For how many usable cycles running the input words differ. It stops at 1,001, which is above every datum 28.
+pub fn run(before: u64, reading: Reading, report: Report) -> u64
+    ensures { λ r. ⌜ r ≡ runOf before reading report ⌝ }
+{
+    if reading.inputs == report.inputs {
+        return 0;
+    }
+    if before < 1001 { before + 1 } else { 1001 }
+}
+
+// Cause 11.
+pub fn inputs_differ(machine: &[i32; 51], run: u64) -> bool
+    ensures { λ r. ⌜ r ≡ inputsDiffer (now (machine .entry)) run ⌝ }
+{
+    machine_data::number(machine, 28) < run
+}
+
+// Cause 12.
+pub fn datum_differs(machine: &[i32; 51], k: usize, report: Report) -> bool
+    ensures { λ r. ⌜ r ≡ datumDiffers (now (machine .entry)) k report ⌝ }
+{
+    machine_data::entry(machine, k) != report.datum
+}
+
+impl Fault {
+    // The cycles left: datum 34 where F is new, else one less.
+    fn count(self, machine: &[i32; 51], new: bool) -> u64
+        ensures { λ r. ⌜ r ≡ cond new (numberOf (now (machine .entry)) 34) (self .left - 1) ⌝ }
+    {
+        let left = self.left;
+        if new {
+            machine_data::number(machine, 34)
+        } else if left == 0 {
+            0
+        } else {
+            left - 1
+        }
+    }
+
+    // F after causes 10 to 12 of a usable cycle.
+    pub fn next(self, machine: &[i32; 51], differs: bool) -> Fault
+        ensures { λ r. ⌜ r ≡ faultNext (now (machine .entry)) differs self ⌝ }
+    {
+        if self.on {
+            Fault {
+                on: true,
+                left: self.count(machine, false),
+            }
+        } else if differs {
+            Fault {
+                on: true,
+                left: self.count(machine, true),
+            }
+        } else {
+            Fault { on: false, left: 0 }
+        }
+    }
+
+    // Cause 13.
+    pub fn expired(self) -> bool
+        ensures { λ r. ⌜ r ≡ expired self ⌝ }
+    {
+        self.on && self.left == 0
+    }
+}

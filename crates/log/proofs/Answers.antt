@@ -1,0 +1,115 @@
+-- A log's answer by its length, its scan and the output's room. Assumes nothing.
+use mathlib.Core.Path.{_≡_, refl, sym, ap, _∙_}
+use mathlib.Core.Bool.{Bool, true, false, cond}
+use mathlib.Core.List.{List, [], _∷_}
+use Prim.Native.Nat.{ℕ, zero, suc, _+_, _*_, _≤_, _<_}
+use native.Mathlib.Omega.{arith}
+use lib.ListN.{length}
+use lib.Dec.{ltb}
+use borrow.Author.Tests.{lt-ltb, le-ltb}
+use Rattle.records.specs.declared.CycleRecord.{CycleRecord}
+use Rattle.records.specs.declared.Entry as E
+use Rattle.records.specs.declared.Scan as S
+use Rattle.records.specs.Records.{entryAt, LogRead, records, fault, before, onEntry, logFrom, logOf, counted, scanOf}
+use Rattle.channel.specs.declared.Channel.{Channel}
+use Rattle.log.specs.declared.Both.{Both}
+use Rattle.log.specs.declared.LogRun.{LogRun}
+use Rattle.log.specs.declared.LogAnswer.the-variants.{Accepted}
+use Rattle.log.specs.Run.{Ran, bothOf, withState, refusing, running, byRecords, ranOf}
+use Rattle.log.specs.Ensures.{LogEnsures, refusedRun, Sound, Runs}
+
+never : {X : Type 0} → _≡_ {A = ℕ} 0 1 → X
+never z = absurd (go z)
+  where
+    go : _≡_ {A = ℕ} 0 1 → ⊥
+    go y = omega arith
+
+-- ---- the scan
+
+pub scanned : (words : List ℕ) (n : ℕ) → scanOf words ≡ S.the-variants.Cycles n → (rs : List CycleRecord) × (logOf words ≡ records rs) × (n ≡ length rs)
+scanned words n = go (logOf words) refl
+  where
+    go : (l : LogRead) → logOf words ≡ l → counted 0 l ≡ S.the-variants.Cycles n → (rs : List CycleRecord) × (logOf words ≡ records rs) × (n ≡ length rs)
+    go (records rs) q e = let size : 0 + length rs ≡ n = cc in (rs, q, omega arith)
+    go (fault place) q e = never (cc)
+
+pub faulty : (words : List ℕ) (place : ℕ) → scanOf words ≡ S.the-variants.Bad place → logOf words ≡ fault place
+faulty words place = go (logOf words) refl
+  where
+    go : (l : LogRead) → logOf words ≡ l → counted 0 l ≡ S.the-variants.Bad place → logOf words ≡ fault place
+    go (records rs) q e = never (cc)
+    go (fault p) q e = q ∙ ap fault {x = p} {y = place} (cc)
+
+-- a log has no more records than entries
+few : (n : ℕ) (s : List ℕ) (at : ℕ) (rs : List CycleRecord) → logFrom n s at ≡ records rs → length rs ≤ n
+unfolding logFrom
+few zero s at rs e = let q : [] ≡ rs = none e in omega (arith, ap length q)
+  where
+    none : records [] ≡ records rs → [] ≡ rs
+    none y = cc
+few (suc n) s at rs e₀ = go (ltb at (length s)) (entryAt s at) (few n s (at + 7)) (few n s (at + 1)) e₀
+  where
+    empty : records [] ≡ records rs → length rs ≤ suc n
+    empty y = let q : [] ≡ rs = cc in omega (arith, ap length q)
+
+    after : (r : CycleRecord) (l : LogRead) → ((k : List CycleRecord) → l ≡ records k → length k ≤ n) → before r l ≡ records rs → length rs ≤ suc n
+    after r (records k) h y = let q : r ∷ k ≡ rs = cc in omega (arith, ap length q, h k refl)
+    after r (fault place) h y = never (cc)
+
+    go : (t : Bool) (x : E.Entry) → ((k : List CycleRecord) → logFrom n s (at + 7) ≡ records k → length k ≤ n) → ((k : List CycleRecord) → logFrom n s (at + 1) ≡ records k → length k ≤ n) →
+        cond t (onEntry x (λ r. before r (logFrom n s (at + 7))) (logFrom n s (at + 1))) (records []) ≡ records rs → length rs ≤ suc n
+    go false x f g y = empty y
+    go true (E.the-variants.Record r) f g y = after r (logFrom n s (at + 7)) f y
+    go true E.the-variants.Remark f g y = omega (arith, g rs y)
+    go true (E.the-variants.Bad place) f g y = never (cc)
+
+pub few-cycles : (words : List ℕ) (n : ℕ) → scanOf words ≡ S.the-variants.Cycles n → n ≤ length words
+few-cycles words n e = let s = scanned words n e in omega (arith, s .2, few (length words) words 0 (s .0) (s .1))
+
+-- ---- the answers
+
+module _ (a b : Channel) (words out : List ℕ) where
+  refuses : (number place : ℕ) {r : LogRun} → r ≡ refusedRun number place a b → ranOf a b words out ≡ refusing a b out number place → LogEnsures a b words out r out
+  refuses number place {r} q e =
+      record {
+        answer = ap (λ (x : LogRun). x .answer) q ∙ sym (ap (λ (x : Ran). x .answer) e);
+        channel-a = ap (λ (x : LogRun). x .a) q ∙ sym (ap (λ (x : Ran). x .a) e);
+        channel-b = ap (λ (x : LogRun). x .b) q ∙ sym (ap (λ (x : Ran). x .b) e);
+        output = sym (ap (λ (x : Ran). x .out) e);
+      }
+
+  pub too-long : {r : LogRun} → r ≡ refusedRun 6 16384 a b → 16384 < length words → LogEnsures a b words out r out
+  unfolding ranOf
+  too-long q h = refuses 6 16384 q (simp (lt-ltb 16384 (length words) h))
+
+  module _ (short : length words ≤ 16384) where
+    by-log : {l : LogRead} → logOf words ≡ l → ranOf a b words out ≡ byRecords a b out l
+    unfolding ranOf
+    by-log e = simp (le-ltb 16384 (length words) short) (ap (byRecords a b out) e)
+
+    pub bad-word : {r : LogRun} {place : ℕ} → r ≡ refusedRun 6 place a b → scanOf words ≡ S.the-variants.Bad place → LogEnsures a b words out r out
+    bad-word {place = place} q e = refuses 6 place q (by-log (faulty words place e))
+
+    pub no-room : {r : LogRun} {n : ℕ} → r ≡ refusedRun 7 (3 * n) a b → scanOf words ≡ S.the-variants.Cycles n → length out < 3 * n → LogEnsures a b words out r out
+    no-room {n = n} q e h =
+        let s = scanned words n e in
+        let less : length out < 3 * length (s .0) = omega (arith, s .2) in
+        refuses 7 (3 * n) q (by-log (s .1) ∙ simp (lt-ltb (length out) (3 * length (s .0)) less) (ap (λ (k : ℕ). refusing a b out 7 (3 * k)) (sym (s .2))))
+
+    pub sound : {n : ℕ} → scanOf words ≡ S.the-variants.Cycles n → 3 * n ≤ length out → Sound words out n
+    sound {n} e h =
+        let s = scanned words n e in
+        record { rs = s .0; log = s .1; room = omega (arith, s .2); counted = s .2; short = short }
+
+  -- the run of the records, as the machine gives it back
+  pub ran : {n : ℕ} → Sound words out n → (y : Both) (out′ : List ℕ) → Runs (a .machine .values) (b .machine .values) (bothOf a b) words out y out′ →
+      LogEnsures a b words out (record { answer = Accepted n; a = withState a (y .a); b = withState b (y .b) }) out′
+  ran {n} s y out′ runs =
+      let r = runs (s .rs) (s .log) in
+      let is : ranOf a b words out ≡ running a b out (s .rs) = by-log (s .short) (s .log) ∙ simp (le-ltb (length out) (3 * length (s .rs)) (s .room)) in
+      record {
+        answer = ap Accepted (s .counted) ∙ sym (ap (λ (x : Ran). x .answer) is);
+        channel-a = ap (λ (z : Both). withState a (z .a)) (r .0) ∙ sym (ap (λ (x : Ran). x .a) is);
+        channel-b = ap (λ (z : Both). withState b (z .b)) (r .0) ∙ sym (ap (λ (x : Ran). x .b) is);
+        output = r .1 ∙ sym (ap (λ (x : Ran). x .out) is);
+      }

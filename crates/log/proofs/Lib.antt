@@ -1,0 +1,4 @@
+pub mod Output
+pub mod Going
+pub mod Answers
+pub mod Accepts

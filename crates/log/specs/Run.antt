@@ -1,0 +1,91 @@
+-- The run of a log: document 01, "An accepted log runs the two channels given with it".
+use Prim.Native.Nat.{ℕ, _*_}
+use mathlib.Core.Bool.{Bool, cond}
+use mathlib.Core.List.{List, [], _∷_, _++_}
+use lib.ListN.{length, drop}
+use lib.IntN.{ℤ}
+use lib.Dec.{ltb}
+use Rattle.inputs.specs.declared.Reading.{Reading}
+use Rattle.records.specs.declared.CycleRecord.{CycleRecord}
+use Rattle.records.specs.Records.{LogRead, records, fault, logOf}
+use Rattle.channel.specs.declared.State.{State}
+use Rattle.channel.specs.declared.Given.{Given}
+use Rattle.channel.specs.declared.Channel.{Channel}
+use Rattle.channel.specs.Cycle.{reportOf, next}
+use Rattle.channel.specs.Word.{word}
+use Rattle.device.specs.Device.{deviceOf}
+use Rattle.log.specs.declared.Both.{Both}
+use Rattle.log.specs.declared.Turn.{Turn}
+use Rattle.log.specs.declared.LogAnswer.{LogAnswer}
+use Rattle.log.specs.declared.LogAnswer.the-variants.{Accepted, Refused}
+
+-- what a record gives a channel: its own reading, and the other's report, "datum k by the data and k of the channel given"
+abbrev pub givenBy : List ℤ → State → Reading → Reading → Bool → Given
+givenBy d s own other ack = record { reading = own; acknowledged = ack; report = reportOf d s other }
+
+module _ (da db : List ℤ) where
+  -- both reports are from before the cycle
+  abbrev pub givenA : Both → CycleRecord → Given
+  givenA x r = givenBy db (x .b) (r .a) (r .b) (r .acknowledged)
+
+  abbrev pub givenB : Both → CycleRecord → Given
+  givenB x r = givenBy da (x .a) (r .b) (r .a) (r .acknowledged)
+
+  -- "each cycle puts A's word, B's word and the device word into the output"
+  unfoldable pub turnOf : Both → CycleRecord → Turn
+  turnOf x r =
+      record {
+        both = record { a = next da (x .a) (givenA x r); b = next db (x .b) (givenB x r) };
+        a = word da (x .a) (givenA x r);
+        b = word db (x .b) (givenB x r);
+        device = deviceOf (word da (x .a) (givenA x r)) (word db (x .b) (givenB x r));
+      }
+
+  abbrev pub lineOf : Turn → List ℕ
+  lineOf t = t .a ∷ t .b ∷ t .device ∷ []
+
+  -- the states after a run, and its words
+  unfoldable pub lastOf : Both → List CycleRecord → Both
+  lastOf x [] = x
+  lastOf x (r ∷ rs) = lastOf (turnOf x r .both) rs
+
+  unfoldable pub linesOf : Both → List CycleRecord → List ℕ
+  linesOf x [] = []
+  linesOf x (r ∷ rs) = lineOf (turnOf x r) ++ linesOf (turnOf x r .both) rs
+
+abbrev pub bothOf : Channel → Channel → Both
+bothOf a b = record { a = a .state; b = b .state }
+
+abbrev pub withState : Channel → State → Channel
+withState c s = record { machine = c .machine; state = s }
+
+-- what a log leaves: the answer, both channels, and the output
+pub record Ran : Type 0 where
+  pub answer : LogAnswer
+  pub a : Channel
+  pub b : Channel
+  pub out : List ℕ
+
+-- "output, channels" are left as they were
+abbrev pub refusing : Channel → Channel → List ℕ → ℕ → ℕ → Ran
+refusing a b out number place = record { answer = Refused number place; a = a; b = b; out = out }
+
+-- "from its front on; the output words behind them are not touched. The number of cycles and both channels come back"
+abbrev pub running : Channel → Channel → List ℕ → List CycleRecord → Ran
+running a b out rs =
+    let last = lastOf (a .machine .values) (b .machine .values) (bothOf a b) rs in
+    record {
+      answer = Accepted (length rs);
+      a = withState a (last .a);
+      b = withState b (last .b);
+      out = linesOf (a .machine .values) (b .machine .values) (bothOf a b) rs ++ drop (3 * length rs) out;
+    }
+
+-- "output below 3 words a cycle": 7, the words wanted; "6 before 7"
+abbrev pub byRecords : Channel → Channel → List ℕ → LogRead → Ran
+byRecords a b out (fault place) = refusing a b out 6 place
+byRecords a b out (records rs) = cond (ltb (length out) (3 * length rs)) (refusing a b out 7 (3 * length rs)) (running a b out rs)
+
+-- "log over 16,384 words, or a word missing or wrong": 6; "In a log length goes first"
+unfoldable pub ranOf : Channel → Channel → List ℕ → List ℕ → Ran
+ranOf a b words out = cond (ltb 16_384 (length words)) (refusing a b out 6 16_384) (byRecords a b out (logOf words))

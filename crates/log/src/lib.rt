@@ -1,0 +1,178 @@
+// The run of a log over two channels, into a lent output.
+ghost use mathlib.Core.Path.{_≡_};
+ghost use Prim.Native.Nat.{_+_, _≤_, _*_};
+ghost use mathlib.Core.List.{_∷_, _++_};
+ghost use lib.ListN.{length, take, drop};
+ghost use Rattle.log.specs.Run.{givenBy, turnOf};
+ghost use Rattle.log.specs.Ensures.{LogEnsures, refusedRun, Enough, Sound, Runs};
+use channel::Channel;
+use channel::Given;
+use channel::State;
+use inputs::Reading;
+use records::CycleRecord;
+use records::Entry;
+use records::Scan;
+
+pub enum LogAnswer {
+    // how many cycles were run
+    Accepted(usize),
+    // number, and the place or the words wanted
+    Refused(u32, usize),
+}
+
+// Both channels come back, as they were where the log is refused.
+pub struct LogRun {
+    pub answer: LogAnswer,
+    pub a: Channel,
+    pub b: Channel,
+}
+
+// The two channels' states, beside their data.
+struct Both {
+    a: State,
+    b: State,
+}
+
+// What a cycle of both channels gives.
+struct Turn {
+    both: Both,
+    a: u32,
+    b: u32,
+    device: u32,
+}
+
+// What a channel is given in a record: its own reading, and the other's report from before the cycle.
+fn given(
+    other: &[i32; 51],
+    state: State,
+    own: Reading,
+    reported: Reading,
+    acknowledged: bool,
+) -> Given
+    ensures { λ r. ⌜ r ≡ givenBy (now (other .entry)) state own reported acknowledged ⌝ }
+{
+    Given {
+        reading: own,
+        acknowledged,
+        report: channel::report(other, state, reported),
+    }
+}
+
+fn turn_of<'a>(ma: &'a [i32; 51], mb: &'a [i32; 51], both: Both, r: CycleRecord) -> Turn
+    ensures { λ t. ⌜ t ≡ turnOf (now (ma .entry)) (now (mb .entry)) both r ⌝ }
+{
+    let sa = both.a;
+    let sb = both.b;
+    let ra = r.a;
+    let rb = r.b;
+    let a = channel::step(ma, sa, given(mb, sb, ra, rb, r.acknowledged));
+    let b = channel::step(mb, sb, given(ma, sa, rb, ra, r.acknowledged));
+    let na = a.state;
+    let nb = b.state;
+    Turn {
+        both: Both { a: na, b: nb },
+        a: a.word,
+        b: b.word,
+        device: device::device_word(a.word, b.word),
+    }
+}
+
+// A cycle's three words, from a place of the output on.
+fn put(out: &mut [u32], at: usize, a: u32, b: u32, device: u32)
+    requires { ⌜ at + 3 ≤ length (now out) ⌝ }
+    ensures { λ _. ⌜ now (out .exit) ≡ take at (now (out .entry)) ++ a ∷ b ∷ device ∷ drop (at + 3) (now (out .entry)) ⌝ }
+{
+    out[at] = a;
+    out[at + 1] = b;
+    out[at + 2] = device;
+}
+
+// The records of an accepted log, run one by one.
+fn run_records<'a>(
+    ma: &'a [i32; 51],
+    mb: &'a [i32; 51],
+    both: Both,
+    words: &[u32],
+    out: &mut [u32],
+) -> Both
+    requires { ⌜ Enough (now words) (now out) ⌝ }
+    ensures { λ r. ⌜ Runs (now (ma .entry)) (now (mb .entry)) both (now (words .entry)) (now (out .entry)) r (now (out .exit)) ⌝ }
+{
+    let mut now = both;
+    let mut at = 0usize;
+    let mut next = 0usize;
+    while at < words.len() {
+        let entry = records::entry_at(words, at);
+        match entry {
+            Entry::Record(r) => {
+                let t = turn_of(ma, mb, now, r);
+                put(out, next, t.a, t.b, t.device);
+                let after = t.both;
+                now = after;
+                at += 7;
+                next += 3;
+            }
+            Entry::Remark => {
+                at += 1;
+            }
+            Entry::Bad(_) => {
+                return now;
+            }
+        }
+    }
+    now
+}
+
+fn refused(number: u32, place: usize, a: Channel, b: Channel) -> LogRun
+    ensures { λ r. ⌜ r ≡ refusedRun number place a b ⌝ }
+{
+    LogRun {
+        answer: LogAnswer::Refused(number, place),
+        a,
+        b,
+    }
+}
+
+// A log whose records are sound, with room for their words.
+fn accepted(a: Channel, b: Channel, words: &[u32], out: &mut [u32], cycles: usize) -> LogRun
+    requires { ⌜ Sound (now words) (now out) cycles ⌝ }
+    ensures { λ r. ⌜ LogEnsures a b (now (words .entry)) (now (out .entry)) r (now (out .exit)) ⌝ }
+{
+    let ma = a.machine;
+    let mb = b.machine;
+    let sa = a.state;
+    let sb = b.state;
+    let last = run_records(&ma.values, &mb.values, Both { a: sa, b: sb }, words, out);
+    let la = last.a;
+    let lb = last.b;
+    LogRun {
+        answer: LogAnswer::Accepted(cycles),
+        a: Channel {
+            machine: ma,
+            state: la,
+        },
+        b: Channel {
+            machine: mb,
+            state: lb,
+        },
+    }
+}
+
+// A log over two channels: checked whole, and only then run.
+pub fn run_log(a: Channel, b: Channel, words: &[u32], out: &mut [u32]) -> LogRun
+    ensures { λ r. ⌜ LogEnsures a b (now (words .entry)) (now (out .entry)) r (now (out .exit)) ⌝ }
+{
+    if 16384 < words.len() {
+        return refused(6, 16384, a, b);
+    }
+    match records::scan_log(words) {
+        Scan::Cycles(cycles) => {
+            if out.len() < 3 * cycles {
+                refused(7, 3 * cycles, a, b)
+            } else {
+                accepted(a, b, words, out, cycles)
+            }
+        }
+        Scan::Bad(place) => refused(6, place, a, b),
+    }
+}

@@ -1,0 +1,3 @@
+pub mod Parts
+pub mod Scanning
+pub mod Logs

@@ -1,0 +1,44 @@
+-- Laws of F: a cause that sets it lights it, each later usable cycle takes it a step nearer to its end, and at its end cause 13 stands. By its
+-- brightness, one number for F and its count. Assumes nothing.
+use Prim.Native.Nat.{ℕ, suc, _+_, _-_, _≤_, _<_}
+use mathlib.Core.Bool.{Bool, true, false, cond, _&&_}
+use mathlib.Core.List.{List}
+use mathlib.Core.Path.{refl}
+use native.Mathlib.Omega.{arith}
+use borrow.Author.Tests.{eq-eqb}
+use lib.Dec.{T, eqb}
+use lib.IntN.{ℤ}
+use Rattle.machine_data.specs.Data.{numberOf}
+use Rattle.machine_data.proofs.Stands.{number-high}
+use Rattle.comparison.specs.declared.Fault.{Fault}
+use Rattle.comparison.specs.Comparison.{faultNext, expired}
+
+pub fault-time-most : (d : List ℤ) → numberOf d 34 ≤ 1000
+fault-time-most d = number-high d 34 1000 (omega arith) refl
+
+-- 0 while F is off; else 2000, less the cycles left to its end
+unfoldable pub brightness : Fault → ℕ
+brightness f = cond (f .on) (2000 - f .left) 0
+
+-- F from one usable cycle to the next, where nothing is cleared
+pub record Lit (d : List ℤ) (differs : Bool) (f g : Fault) : Type 0 where
+  pub left : f .left ≤ numberOf d 34 → g .left ≤ numberOf d 34
+  pub lights : T differs → f .left ≤ numberOf d 34 → 2000 ≤ brightness g + numberOf d 34
+  pub sooner : (j : ℕ) → j < 1000 → 2000 ≤ brightness f + suc j → 2000 ≤ brightness g + j
+
+pub lit : (d : List ℤ) (differs : Bool) (f : Fault) → Lit d differs f (faultNext d differs f)
+unfolding faultNext brightness
+lit d differs f = go (f .on) differs
+  where
+    go : (a b : Bool) → Lit d b (record { on = a; left = f .left }) (faultNext d b (record { on = a; left = f .left }))
+    go true b = record { left = omega arith; lights = λ _. omega arith; sooner = omega arith }
+    go false true = record { left = omega arith; lights = λ _. omega arith; sooner = omega arith }
+    go false false = record { left = omega arith; lights = λ t. absurd t; sooner = omega arith }
+
+pub expires : (f : Fault) → 2000 ≤ brightness f → T (expired f)
+unfolding brightness expired
+expires f h = go (f .on) (f .left) h
+  where
+    go : (a : Bool) (n : ℕ) → 2000 ≤ cond a (2000 - n) 0 → T (a && eqb n 0)
+    go true n h = rw (eq-eqb n 0 (omega arith)) tt
+    go false n h = omega arith

@@ -1,0 +1,4 @@
+pub mod Ensures
+pub mod Calls
+pub mod History
+pub mod Demand3

@@ -1,0 +1,4 @@
+pub mod Counts
+pub mod Order
+pub mod Chosen
+pub mod Numbered

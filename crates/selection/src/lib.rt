@@ -1,0 +1,140 @@
+// Step 3 of a cycle: what is selected, and what is effective.
+ghost use mathlib.Core.Path.{_≡_};
+ghost use Rattle.selection.specs.Selection.{selectedOf, allowanceOf, stricter, isSbh, referenceOf, boundOf, countOf, waitedOf, choiceNext};
+use inputs::Reading;
+
+pub enum Selection {
+    Nothing,
+    // the SG's number less one, and the override's number
+    Sg(u8, u8),
+    Sbh,
+}
+
+// The effective selection, once one was made; SBH's reference; the cycles left of a lowering, 0 where none is under way.
+pub struct Choice {
+    pub chosen: bool,
+    pub effective: Selection,
+    pub reference: i32,
+    pub left: u64,
+}
+
+// What an input word selects.
+pub fn selected(machine: &[i32; 51], inputs: u32) -> Selection
+    ensures { λ r. ⌜ r ≡ selectedOf (now (machine .entry)) inputs ⌝ }
+{
+    if machine_data::function(machine, 0) {
+        if bits::bit(inputs, 0) {
+            Selection::Nothing
+        } else if bits::bit(inputs, 1) {
+            let n = (inputs / 8 % 4) as u8;
+            let o = (inputs / 268435456) as u8;
+            Selection::Sg(n, o)
+        } else {
+            Selection::Sbh
+        }
+    } else {
+        Selection::Nothing
+    }
+}
+
+// The speed that a selection allows, as limit × percent: SBH none, nothing more than any SG.
+fn allowance(machine: &[i32; 51], s: Selection) -> u64
+    ensures { λ r. ⌜ r ≡ allowanceOf (now (machine .entry)) s ⌝ }
+{
+    match s {
+        Selection::Nothing => 100000001,
+        Selection::Sg(n, o) => speed::sg_speed(machine, n, o),
+        Selection::Sbh => 0,
+    }
+}
+
+fn is_sbh(s: Selection) -> bool
+    ensures { λ r. ⌜ r ≡ isSbh s ⌝ }
+{
+    match s {
+        Selection::Nothing => false,
+        Selection::Sg(_, _) => false,
+        Selection::Sbh => true,
+    }
+}
+
+impl Choice {
+    // SBH's reference is the position where SBH becomes effective.
+    fn reference_of(self, s: Selection, reading: Reading) -> i32
+        ensures { λ r. ⌜ r ≡ referenceOf self s (reading .position) ⌝ }
+    {
+        let e = self.effective;
+        if is_sbh(s) {
+            if is_sbh(e) {
+                self.reference
+            } else {
+                reading.position
+            }
+        } else {
+            self.reference
+        }
+    }
+
+    // The selection s becomes effective.
+    fn bound(self, s: Selection, reading: Reading) -> Choice
+        ensures { λ r. ⌜ r ≡ boundOf self s (reading .position) ⌝ }
+    {
+        Choice {
+            chosen: true,
+            effective: s,
+            reference: self.reference_of(s, reading),
+            left: 0,
+        }
+    }
+
+    // The count of a lowering: datum 27 where none is under way, else one less.
+    fn count(self, machine: &[i32; 51]) -> u64
+        ensures { λ r. ⌜ r ≡ countOf (now (machine .entry)) (self .left) ⌝ }
+    {
+        let running = self.left;
+        if running == 0 {
+            machine_data::number(machine, 27)
+        } else {
+            running - 1
+        }
+    }
+
+    // A stricter selection s, with the count at left.
+    fn waited(self, s: Selection, reading: Reading, left: u64) -> Choice
+        ensures { λ r. ⌜ r ≡ waitedOf self s (reading .position) left ⌝ }
+    {
+        if left == 0 {
+            return self.bound(s, reading);
+        }
+        let e = self.effective;
+        Choice {
+            chosen: true,
+            effective: e,
+            reference: self.reference,
+            left,
+        }
+    }
+
+    // Whether s is stricter than what is effective.
+    fn lowered(self, machine: &[i32; 51], s: Selection) -> bool
+        ensures { λ r. ⌜ r ≡ stricter (now (machine .entry)) s (self .effective) ⌝ }
+    {
+        let e = self.effective;
+        allowance(machine, s) < allowance(machine, e)
+    }
+
+    // The choice after a usable cycle that selects s.
+    pub fn next(self, machine: &[i32; 51], s: Selection, reading: Reading) -> Choice
+        ensures { λ r. ⌜ r ≡ choiceNext (now (machine .entry)) self s (reading .position) ⌝ }
+    {
+        if self.chosen {
+            if self.lowered(machine, s) {
+                self.waited(s, reading, self.count(machine))
+            } else {
+                self.bound(s, reading)
+            }
+        } else {
+            self.bound(s, reading)
+        }
+    }
+}

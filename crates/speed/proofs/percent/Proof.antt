@@ -1,0 +1,31 @@
+-- `speed::percent` meets its contract: its one test is that of the definition. Assumes nothing.
+use Prim.Native.Nat.{_%_}
+use native.Mathlib.Omega.{arith}
+use borrow.Author.Tests.{eq-eqb, ne-eqb}
+use mathlib.Core.Path.{_≡_, _∙_}
+use Rattle.speed.specs.Speed.{percentOf}
+use borrow.Author.Needs.{needs}
+use Rattle.speed.proofs.percent.Statement.{statement}
+use Rattle.speed.proofs.percent.Tie as tie
+
+cast-number : tie.Need-cast-number
+cast-number c = search needs
+
+add-number : tie.Need-add-number
+add-number c = search needs
+
+number-requires : tie.Need-number-requires
+number-requires c κs = search needs
+
+returns : tie.Need-returns
+unfolding percentOf
+returns c = let h : c .before .before .args .n % 2 ≡ 1 = omega arith in
+    c .number .ensures ∙ simp (eq-eqb _ 1 h)
+
+returns-2 : tie.Need-returns-2
+unfolding percentOf
+returns-2 c = let h : c .before .args .n % 2 ≡ 1 → ⊥ = omega arith in
+    simp (ne-eqb _ 1 h)
+
+pub percent-spec : {M : Type 1} → statement M
+percent-spec = tie.close (tie.spec cast-number add-number number-requires returns returns-2)

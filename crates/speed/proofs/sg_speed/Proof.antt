@@ -1,0 +1,30 @@
+-- `speed::sg_speed` meets its contract: the product fits, since no datum is above 100,000,000. Assumes nothing.
+use Rattle.speed.specs.Speed.{speedOf}
+use Rattle.speed.proofs.Bounds.{number-most, percent-small, product-fits}
+use borrow.Author.Needs.{needs}
+use Rattle.speed.proofs.sg_speed.Statement.{statement}
+use Rattle.speed.proofs.sg_speed.Tie as tie
+
+cast-number : tie.Need-cast-number
+cast-number c = search needs
+
+add-number : tie.Need-add-number
+add-number c = search needs
+
+number-requires : tie.Need-number-requires
+number-requires c κs = search needs
+
+percent-requires : tie.Need-percent-requires
+percent-requires c κs = search needs
+
+mul-result : tie.Need-mul-result
+mul-result c = let s = c .before .before .args in
+    rw (c .before .number .ensures, c .percent .ensures) (product-fits (number-most (s .machine .now) _) (percent-small (s .machine .now) (s .n) (s .o)))
+
+returns : tie.Need-returns
+unfolding speedOf
+returns c = cc
+
+pub sg-speed-spec : {M : Type 1} → statement M
+sg-speed-spec =
+    tie.close (tie.spec cast-number add-number number-requires percent-requires mul-result returns)

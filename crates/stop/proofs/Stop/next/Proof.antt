@@ -1,0 +1,69 @@
+-- `stop::Stop::next` meets its contract: the numbers that it compares are those of the stop's rank and the strongest. Assumes nothing.
+use mathlib.Core.Path.{_≡_, _∙_, ap}
+use mathlib.Core.Bool.{true, false}
+use native.Mathlib.Omega.{arith}
+use borrow.Author.Tests.{lt-ltb, le-ltb}
+use Rattle.stop.specs.Stop.{stopNext, rankNumber, levelOf, outranks}
+use borrow.Author.Needs.{needs}
+use Rattle.stop.proofs.Stop.next.Statement.{statement}
+use Rattle.stop.proofs.Stop.next.Tie as tie
+
+returns : tie.Need-returns
+unfolding stopNext
+returns c = simp (c .if1 .taken)
+
+rank-requires : tie.Need-rank-requires
+rank-requires c κs = search needs
+
+number-requires : tie.Need-number-requires
+number-requires c κs = search needs
+
+number-requires-2 : tie.Need-number-requires-2
+number-requires-2 c κs = search needs
+
+entered-requires : tie.Need-entered-requires
+entered-requires c κs = search needs
+
+settled-requires : tie.Need-settled-requires
+settled-requires c κs = search needs
+
+counted-requires : tie.Need-counted-requires
+counted-requires c κs = search needs
+
+settled-requires-2 : tie.Need-settled-requires-2
+settled-requires-2 c κs = search needs
+
+-- the first of the two numbers compared
+standing : (c : tie.After-number2) → c .before .number .result ≡ levelOf (c .before .before .before .before .args .self)
+standing c = c .before .number .ensures ∙ ap rankNumber (c .before .before .rank .ensures)
+
+returns-2 : tie.Need-returns-2
+unfolding stopNext
+returns-2 c =
+    let k = c .before .before .before in
+    let a = k .before .before .before .before .args in
+    let t : outranks (a .strongest) (a .self) ≡ true = lt-ltb (levelOf (a .self)) (rankNumber (a .strongest)) (omega (arith, standing k)) in
+    c .settled .ensures ∙ simp (c .before .entered .ensures, k .before .before .before .if1 .left, t)
+
+returns-3 : tie.Need-returns-3
+unfolding stopNext
+returns-3 c =
+    let k = c .before .before .before in
+    let a = k .before .before .before .before .args in
+    let t : outranks (a .strongest) (a .self) ≡ false = le-ltb (levelOf (a .self)) (rankNumber (a .strongest)) (omega (arith, standing k)) in
+    c .settled2 .ensures ∙ simp (c .before .counted .ensures, k .before .before .before .if1 .left, t)
+
+pub next-spec : {M : Type 1} → statement M
+next-spec =
+    tie.close
+    (tie.spec
+    returns
+    rank-requires
+    number-requires
+    number-requires-2
+    entered-requires
+    settled-requires
+    counted-requires
+    settled-requires-2
+    returns-2
+    returns-3)

@@ -1,0 +1,138 @@
+-- Stop ranks, the stop state and step 5 of a cycle: document 01, "Machine data" and "One cycle of a channel".
+use Prim.Native.Nat.{ℕ, zero, suc, _-_, _≤_}
+use mathlib.Core.Bool.{Bool, not, cond, _&&_, _||_}
+use mathlib.Core.List.{List}
+use lib.IntN.{ℤ}
+use lib.Dec.{ltb, eqb}
+use Rattle.machine_data.specs.Data.{numberOf}
+use Rattle.stop.specs.declared.Rank.{Rank}
+use Rattle.stop.specs.declared.Rank.the-variants.{None, E, D, C, B, A}
+use Rattle.stop.specs.declared.Stop.{Stop}
+use Rattle.stop.specs.declared.Stop.the-variants.{Free, Braking, Held, Cancelled}
+
+-- "Stop ranks: 0 none, 1 E, 2 D, 3 C, 4 B, 5 A"
+abbrev pub rankNumber : Rank → ℕ
+rankNumber None = 0
+rankNumber E = 1
+rankNumber D = 2
+rankNumber C = 3
+rankNumber B = 4
+rankNumber A = 5
+
+-- the rank of a number; past 5, which no datum holds, it is A
+abbrev pub rankFrom : ℕ → Rank
+rankFrom zero = None
+rankFrom (suc zero) = E
+rankFrom (suc (suc zero)) = D
+rankFrom (suc (suc (suc zero))) = C
+rankFrom (suc (suc (suc (suc zero)))) = B
+rankFrom (suc (suc (suc (suc (suc n))))) = A
+
+-- the stronger of two ranks
+abbrev pub strongerOf : Rank → Rank → Rank
+strongerOf a b = cond (ltb (rankNumber a) (rankNumber b)) b a
+
+-- "29-32: times of STOP C, D, E; B to A"; "0 for A"
+abbrev pub timeOf : List ℤ → Rank → ℕ
+timeOf d None = 0
+timeOf d E = numberOf d 31
+timeOf d D = numberOf d 30
+timeOf d C = numberOf d 29
+timeOf d B = numberOf d 32
+timeOf d A = 0
+
+-- the rank of a stop state
+abbrev pub rankOf : Stop → Rank
+rankOf Free = None
+rankOf (Braking r n) = r
+rankOf (Held r p) = r
+rankOf Cancelled = A
+
+-- its number
+abbrev pub levelOf : Stop → ℕ
+levelOf s = rankNumber (rankOf s)
+
+-- "if above the rank"
+abbrev pub outranks : Rank → Stop → Bool
+outranks strongest s = ltb (levelOf s) (rankNumber strongest)
+
+-- "entered with its count from data 29-32 (0 for A), not held"
+abbrev pub enteredOf : List ℤ → Rank → Stop
+enteredOf d r = Braking r (timeOf d r)
+
+-- "else the count falls by one. No count falls below 0"
+abbrev pub countedOf : Stop → Stop
+countedOf Free = Free
+countedOf (Braking r n) = Braking r (n - 1)
+countedOf (Held r p) = Held r p
+countedOf Cancelled = Cancelled
+
+-- "In the first cycle where the count is 0, entry included, C, D and E are held with the position as reference"
+abbrev pub heldAt : ℤ → Rank → ℕ → Stop
+heldAt position r n = cond (eqb n 0) (Held r position) (Braking r n)
+
+-- where B becomes A: at count 0; "B also becomes A where |d| × 60 < datum 33 × T"
+abbrev pub endsOf : Bool → ℕ → Bool
+endsOf slow n = eqb n 0 || slow
+
+-- "and B becomes A"
+abbrev pub brakedAt : Bool → ℕ → Stop
+brakedAt slow n = cond (endsOf slow n) Cancelled (Braking B n)
+
+-- a stop of rank r with n cycles left
+abbrev pub atCount : Bool → ℤ → Rank → ℕ → Stop
+atCount slow position None n = Free
+atCount slow position E n = heldAt position E n
+atCount slow position D n = heldAt position D n
+atCount slow position C n = heldAt position C n
+atCount slow position B n = brakedAt slow n
+atCount slow position A n = Cancelled
+
+-- "The reference then stays while the hold lasts"
+abbrev pub settledOf : Bool → ℤ → Stop → Stop
+settledOf slow position Free = Free
+settledOf slow position (Braking r n) = atCount slow position r n
+settledOf slow position (Held r q) = Held r q
+settledOf slow position Cancelled = Cancelled
+
+-- "Acknowledged and no fresh cause: rank 0, not held"; "Else the strongest cause, if above the rank, is entered"; "else the count falls"
+unfoldable pub stopNext : List ℤ → Bool → Rank → Bool → ℤ → Stop → Stop
+stopNext d clears strongest slow position s =
+    cond clears Free
+    (settledOf slow position (cond (outranks strongest s) (enteredOf d strongest) (countedOf s)))
+
+-- ---- what the laws of step 5 speak of
+
+-- the stops that a cycle leaves: E to B brake, with a count from 1 to their time, and E to C are held
+pub data WellFormed (d : List ℤ) : Stop → Type 0 where
+  free : WellFormed d Free
+  braking : {r : Rank} {n : ℕ} → 1 ≤ rankNumber r → rankNumber r ≤ 4 → 1 ≤ n → n ≤ timeOf d r → WellFormed d (Braking r n)
+  held : {r : Rank} {p : ℤ} → 1 ≤ rankNumber r → rankNumber r ≤ 3 → WellFormed d (Held r p)
+  cancelled : WellFormed d Cancelled
+
+-- a stop is entered: a cause outranks the standing one and no acknowledgement clears it
+abbrev pub entersOf : Bool → Rank → Stop → Bool
+entersOf clears strongest s = not clears && outranks strongest s
+
+-- the cycles left; a stop that does not brake has none
+abbrev pub countOf : Stop → ℕ
+countOf Free = 0
+countOf (Braking r n) = n
+countOf (Held r p) = 0
+countOf Cancelled = 0
+
+-- a rank's number with n cycles left: 4 is 5 where B becomes A
+abbrev pub levelAt : Bool → ℕ → ℕ → ℕ
+levelAt slow level n = cond (eqb level 4 && endsOf slow n) 5 level
+
+-- the number of the rank after a cycle: 0 if it clears; if a stop is entered, its cause's; else as it was; and 5 where B becomes A
+unfoldable pub rankAfter : List ℤ → Bool → Rank → Bool → Stop → ℕ
+rankAfter d clears strongest slow s =
+    cond clears 0
+    (cond (entersOf clears strongest s)
+    (levelAt slow (rankNumber strongest) (timeOf d strongest))
+    (levelAt slow (levelOf s) (countOf s - 1)))
+
+-- the standing B becomes A
+abbrev pub becomesA : Bool → Bool → Stop → Bool
+becomesA clears slow s = not clears && eqb (levelOf s) 4 && endsOf slow (countOf s - 1)

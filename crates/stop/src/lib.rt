@@ -1,0 +1,206 @@
+// Stop ranks and the stop state of a channel.
+ghost use mathlib.Core.Path.{_≡_};
+ghost use Prim.Native.Nat.{_-_};
+ghost use Rattle.stop.specs.Stop.{rankNumber, rankFrom, strongerOf, timeOf, rankOf, enteredOf, countedOf, heldAt, brakedAt, atCount, settledOf, stopNext};
+use inputs::Reading;
+
+pub enum Rank {
+    None,
+    E,
+    D,
+    C,
+    B,
+    A,
+}
+
+impl Rank {
+    pub const NUMBER_NONE: u8 = 0;
+
+    pub const NUMBER_E: u8 = 1;
+
+    pub const NUMBER_D: u8 = 2;
+
+    pub const NUMBER_C: u8 = 3;
+
+    pub const NUMBER_B: u8 = 4;
+
+    pub const NUMBER_A: u8 = 5;
+
+    pub const TIME_C: usize = 29;
+
+    pub const TIME_D: usize = 30;
+
+    pub const TIME_E: usize = 31;
+
+    pub const TIME_B: usize = 32;
+
+    pub fn number(self) -> u8
+        ensures { λ r. ⌜ r ≡ rankNumber self ⌝ }
+    {
+        match self {
+            Rank::None => Rank::NUMBER_NONE,
+            Rank::E => Rank::NUMBER_E,
+            Rank::D => Rank::NUMBER_D,
+            Rank::C => Rank::NUMBER_C,
+            Rank::B => Rank::NUMBER_B,
+            Rank::A => Rank::NUMBER_A,
+        }
+    }
+
+    // The rank that a datum names; a number past 5, which no datum has, is read as A.
+    pub fn from_number(n: u64) -> Rank
+        ensures { λ r. ⌜ r ≡ rankFrom n ⌝ }
+    {
+        match n {
+            0 => Rank::None,
+            1 => Rank::E,
+            2 => Rank::D,
+            3 => Rank::C,
+            4 => Rank::B,
+            _ => Rank::A,
+        }
+    }
+
+    pub fn stronger(self, other: Rank) -> Rank
+        ensures { λ r. ⌜ r ≡ strongerOf self other ⌝ }
+    {
+        if self.number() < other.number() {
+            other
+        } else {
+            self
+        }
+    }
+
+    // The time of a stop, in cycles. A has none.
+    pub fn time(self, machine: &[i32; 51]) -> u64
+        ensures { λ r. ⌜ r ≡ timeOf (now (machine .entry)) self ⌝ }
+    {
+        match self {
+            Rank::None => 0,
+            Rank::E => machine_data::number(machine, Rank::TIME_E),
+            Rank::D => machine_data::number(machine, Rank::TIME_D),
+            Rank::C => machine_data::number(machine, Rank::TIME_C),
+            Rank::B => machine_data::number(machine, Rank::TIME_B),
+            Rank::A => 0,
+        }
+    }
+}
+
+pub enum Stop {
+    // Rank 0.
+    Free,
+    // Entered, with the cycles left.
+    Braking(Rank, u64),
+    // Held, with the reference position.
+    Held(Rank, i32),
+    // Rank 5: pulses cancelled.
+    Cancelled,
+}
+
+fn less_one(n: u64) -> u64
+    ensures { λ r. ⌜ r ≡ n - 1 ⌝ }
+{
+    if n == 0 { 0 } else { n - 1 }
+}
+
+impl Stop {
+    pub fn rank(self) -> Rank
+        ensures { λ r. ⌜ r ≡ rankOf self ⌝ }
+    {
+        match self {
+            Stop::Free => Rank::None,
+            Stop::Braking(r, _) => r,
+            Stop::Held(r, _) => r,
+            Stop::Cancelled => Rank::A,
+        }
+    }
+
+    // A stop as a cause enters it.
+    fn entered(machine: &[i32; 51], r: Rank) -> Stop
+        ensures { λ s. ⌜ s ≡ enteredOf (now (machine .entry)) r ⌝ }
+    {
+        Stop::Braking(r, r.time(machine))
+    }
+
+    // The count falls by one.
+    fn counted(self) -> Stop
+        ensures { λ s. ⌜ s ≡ countedOf self ⌝ }
+    {
+        match self {
+            Stop::Free => self,
+            Stop::Braking(r, n) => Stop::Braking(r, less_one(n)),
+            Stop::Held(_, _) => self,
+            Stop::Cancelled => self,
+        }
+    }
+
+    // C, D and E are held at count 0.
+    fn held_at(r: Rank, n: u64, reading: Reading) -> Stop
+        ensures { λ s. ⌜ s ≡ heldAt (reading .position) r n ⌝ }
+    {
+        if n == 0 {
+            Stop::Held(r, reading.position)
+        } else {
+            Stop::Braking(r, n)
+        }
+    }
+
+    // B becomes A at count 0, or where the axis is slow.
+    fn braked_at(n: u64, slow: bool) -> Stop
+        ensures { λ s. ⌜ s ≡ brakedAt slow n ⌝ }
+    {
+        if n == 0 {
+            Stop::Cancelled
+        } else if slow {
+            Stop::Cancelled
+        } else {
+            Stop::Braking(Rank::B, n)
+        }
+    }
+
+    // A stop of rank r with n cycles left.
+    fn at_count(r: Rank, n: u64, slow: bool, reading: Reading) -> Stop
+        ensures { λ s. ⌜ s ≡ atCount slow (reading .position) r n ⌝ }
+    {
+        match r {
+            Rank::None => Stop::Free,
+            Rank::E => Stop::held_at(r, n, reading),
+            Rank::D => Stop::held_at(r, n, reading),
+            Rank::C => Stop::held_at(r, n, reading),
+            Rank::B => Stop::braked_at(n, slow),
+            Rank::A => Stop::Cancelled,
+        }
+    }
+
+    fn settled(self, slow: bool, reading: Reading) -> Stop
+        ensures { λ s. ⌜ s ≡ settledOf slow (reading .position) self ⌝ }
+    {
+        match self {
+            Stop::Free => self,
+            Stop::Braking(r, n) => Stop::at_count(r, n, slow, reading),
+            Stop::Held(_, _) => self,
+            Stop::Cancelled => self,
+        }
+    }
+
+    // Step 5 of a cycle.
+    pub fn next(
+        self,
+        machine: &[i32; 51],
+        clears: bool,
+        strongest: Rank,
+        slow: bool,
+        reading: Reading,
+    ) -> Stop
+        ensures { λ s. ⌜ s ≡ stopNext (now (machine .entry)) clears strongest slow (reading .position) self ⌝ }
+    {
+        if clears {
+            return Stop::Free;
+        }
+        if self.rank().number() < strongest.number() {
+            Stop::entered(machine, strongest).settled(slow, reading)
+        } else {
+            self.counted().settled(slow, reading)
+        }
+    }
+}

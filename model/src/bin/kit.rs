@@ -1,0 +1,70 @@
+//! `kit`: from the text form of a kit to its bytes, back again, and to the model's listing.
+
+use model::{kit, listing, Deviant, Deviation};
+use std::io::{Read, Write};
+use std::process::ExitCode;
+
+const USAGE: &str = "kit assemble FILE   a kit's text to its bytes
+kit show FILE       a kit's bytes to text
+kit list FILE       the model's listing of a kit
+kit tell FILE       the deviations that a kit tells from document 01
+FILE may be -, for standard input.
+";
+
+fn main() -> ExitCode {
+    let arguments: Vec<String> = std::env::args_os()
+        .skip(1)
+        .map(|argument| argument.to_string_lossy().into_owned())
+        .collect();
+    let answer = match arguments.iter().map(String::as_str).collect::<Vec<_>>()[..] {
+        ["assemble", file] => read(file).and_then(|text| assemble(file, &text)),
+        ["show", file] => read(file).map(|bytes| kit::show(&bytes).into_bytes()),
+        ["list", file] => read(file).map(|bytes| listing::list(&bytes).into_bytes()),
+        ["tell", file] => read(file).map(|bytes| tell(&bytes).into_bytes()),
+        _ => Err(USAGE.into()),
+    };
+    match answer.and_then(|bytes| write(&bytes)) {
+        Ok(()) => ExitCode::SUCCESS,
+        Err(reason) => {
+            let _ = writeln!(std::io::stderr(), "{}", reason.trim_end());
+            ExitCode::from(1)
+        }
+    }
+}
+
+fn read(file: &str) -> Result<Vec<u8>, String> {
+    let mut bytes = Vec::new();
+    let read = match file {
+        "-" => std::io::stdin().read_to_end(&mut bytes).map(|_| bytes),
+        _ => std::fs::read(file),
+    };
+    read.map_err(|error| format!("{file}: {error}"))
+}
+
+fn write(bytes: &[u8]) -> Result<(), String> {
+    let mut out = std::io::stdout().lock();
+    out.write_all(bytes)
+        .and_then(|()| out.flush())
+        .map_err(|error| format!("standard output: {error}"))
+}
+
+fn assemble(file: &str, bytes: &[u8]) -> Result<Vec<u8>, String> {
+    let text = match std::str::from_utf8(bytes) {
+        Ok(text) => text,
+        Err(error) => {
+            let before = &bytes[..error.valid_up_to()];
+            let line = 1 + before.iter().filter(|&&byte| byte == b'\n').count();
+            return Err(format!("{file}: line {line}: no text"));
+        }
+    };
+    kit::assemble(text).map_err(|fault| format!("{file}: {fault}"))
+}
+
+fn tell(bytes: &[u8]) -> String {
+    let paper = listing::list(bytes);
+    let told = Deviation::ALL
+        .iter()
+        .filter(|&&deviation| listing::list_as(Deviant(deviation), bytes) != paper);
+    told.map(|deviation| format!("{}: {}\n", deviation.name(), deviation.what()))
+        .collect()
+}

@@ -1,0 +1,502 @@
+//! Readings of document 01: the paper itself, and single deviations from it.
+//!
+//! A function of the model takes a reading. [`Paper`] never deviates and costs nothing;
+//! [`Deviant`] is wrong in one place, so that kits can be tried for whether they notice.
+//!
+//! Not among the deviations, since no kit can show them:
+//! - F's count, the stop's count or the hold's reference changed in an unusable cycle: the rank
+//!   is 5 from there until a cycle clears, and that puts all of them off;
+//! - cause 13 standing only in the first cycle where the count is 0: the rank is 4 or 5 until
+//!   a cycle clears, and that puts F off;
+//! - cam signals left as they are while their function is off: a list never changes;
+//! - |d| × 60 divided by T before it is compared with nx or the shutdown speed: for whole n,
+//!   a quotient rounded down is below n just where the quotient is;
+//! - the device's look at bit 2, or at ranks above 5: a channel word has bit 2 just where its
+//!   rank is 5, and no rank above;
+//! - a log limit above 16,076 words, and the size of the output: the bench gives no such log;
+//! - the order of cause codes, and the codes themselves: the listing has none.
+
+/// How document 01 is read.
+pub trait Reading: Copy {
+    /// Whether this reading takes the given wrong turn.
+    fn deviates(self, deviation: Deviation) -> bool;
+}
+
+/// Document 01 as it is written.
+#[derive(Clone, Copy, Debug, Default, PartialEq, Eq)]
+pub struct Paper;
+
+impl Reading for Paper {
+    #[inline(always)]
+    fn deviates(self, _: Deviation) -> bool {
+        false
+    }
+}
+
+/// Document 01 with one thing done wrong.
+#[derive(Clone, Copy, Debug, PartialEq, Eq)]
+pub struct Deviant(pub Deviation);
+
+impl Reading for Deviant {
+    #[inline]
+    fn deviates(self, deviation: Deviation) -> bool {
+        self.0 == deviation
+    }
+}
+
+/// `paper!(r, right, Deviation => wrong, ..)`: the first expression is the paper's; each
+/// line behind it is what a program with that deviation does instead.
+macro_rules! paper {
+    ($r:expr, $right:expr $(, $deviation:ident => $wrong:expr)* $(,)?) => {
+        $(if $r.deviates($crate::deviation::Deviation::$deviation) { $wrong } else)* { $right }
+    };
+}
+pub(crate) use paper;
+
+macro_rules! deviations {
+    ($($name:ident: $what:literal, $breaks:literal;)*) => {
+        /// One thing done otherwise than document 01 says.
+        #[derive(Clone, Copy, Debug, PartialEq, Eq, PartialOrd, Ord, Hash)]
+        pub enum Deviation {
+            $(#[doc = $what] $name,)*
+        }
+
+        impl Deviation {
+            /// Every deviation, in document 01's order.
+            pub const ALL: &'static [Deviation] = &[$(Deviation::$name,)*];
+
+            /// What the deviating program does.
+            pub fn what(self) -> &'static str {
+                match self { $(Deviation::$name => $what,)* }
+            }
+
+            /// The sentence that it breaks.
+            pub fn breaks(self) -> &'static str {
+                match self { $(Deviation::$name => $breaks,)* }
+            }
+
+            /// Its name.
+            pub fn name(self) -> &'static str {
+                match self { $(Deviation::$name => stringify!($name),)* }
+            }
+        }
+    };
+}
+
+// Name: "what the program does", "the sentence that it breaks";
+deviations! {
+    // Whole programs that must be thrown out.
+    RestsInStopA: "the monitor rests in STOP A", "Must be thrown out: a monitor resting in STOP A";
+    ReaderAlwaysRefuses: "the list reader refuses every list", "Must be thrown out: a list reader always refusing";
+    OneFixedWord: "every channel word is 00000081", "Must be thrown out: one fixed channel word";
+    IdleStep: "a cycle leaves the channel as it was", "Must be thrown out: an idle step";
+    EchoesFirstCycle: "the first cycle's channel word is given in every later cycle", "Must be thrown out: one watching the first cycle and echoing it later";
+    CycleNumbersInvented: "the listing numbers its lines 1, 4, 7, ..", "Must be thrown out: cycle numbers invented in the listing";
+    HeldSaidAtOnce: "C, D and E are held on entry, whatever their time", "Must be thrown out: \"held\" said before any count is looked at";
+    OutputAlwaysTooSmall: "every log with a cycle is refused with number 7", "Must be thrown out: number 7 said before any size is looked at";
+
+    // Machine data: the ends of the ranges.
+    TLowWider: "T may be 0", "0 | T | 1 to 25";
+    TLowNarrower: "T must be at least 2", "0 | T | 1 to 25";
+    THighWider: "T may be 26", "0 | T | 1 to 25";
+    THighNarrower: "T must be at most 24", "0 | T | 1 to 25";
+    FunctionsLowWider: "the functions may be -1", "1 | functions | 0 to 31";
+    FunctionsLowNarrower: "the functions must not be 0", "1 | functions | 0 to 31";
+    FunctionsHighWider: "the functions may be 32", "1 | functions | 0 to 31";
+    FunctionsHighNarrower: "the functions must not be 31", "1 | functions | 0 to 31";
+    StandstillLowWider: "the standstill tolerance may be -1", "2 | standstill tolerance | 0 to 100,000";
+    StandstillLowNarrower: "the standstill tolerance must not be 0", "2 | standstill tolerance | 0 to 100,000";
+    StandstillHighWider: "the standstill tolerance may be 100,001", "2 | standstill tolerance | 0 to 100,000";
+    StandstillHighNarrower: "the standstill tolerance must be at most 99,999", "2 | standstill tolerance | 0 to 100,000";
+    SgLimitLowWider: "an SG limit may be 0", "3-6 | limits SG1 to SG4 | 1 to 1,000,000";
+    SgLimitLowNarrower: "an SG limit must be at least 2", "3-6 | limits SG1 to SG4 | 1 to 1,000,000";
+    SgLimitHighWider: "an SG limit may be 1,000,001", "3-6 | limits SG1 to SG4 | 1 to 1,000,000";
+    SgLimitHighNarrower: "an SG limit must be at most 999,999", "3-6 | limits SG1 to SG4 | 1 to 1,000,000";
+    SgStopLowWider: "the stop of an SG may be 0", "7-10 | stops of SG1 to SG4 | 1 to 5";
+    SgStopLowNarrower: "the stop of an SG must not be E", "7-10 | stops of SG1 to SG4 | 1 to 5";
+    SgStopHighWider: "the stop of an SG may be 6", "7-10 | stops of SG1 to SG4 | 1 to 5";
+    SgStopHighNarrower: "the stop of an SG must not be A", "7-10 | stops of SG1 to SG4 | 1 to 5";
+    SeEndLowWider: "an SE end may be -100,000,001", "11-14 | SE1 minus, SE1 plus, SE2 minus, SE2 plus | ±100,000,000";
+    SeEndLowNarrower: "an SE end must be at least -99,999,999", "11-14 | SE1 minus, SE1 plus, SE2 minus, SE2 plus | ±100,000,000";
+    SeEndHighWider: "an SE end may be 100,000,001", "11-14 | SE1 minus, SE1 plus, SE2 minus, SE2 plus | ±100,000,000";
+    SeEndHighNarrower: "an SE end must be at most 99,999,999", "11-14 | SE1 minus, SE1 plus, SE2 minus, SE2 plus | ±100,000,000";
+    SeStopLowWider: "the stop of SE may be 0", "15 | stop of SE | 1 to 3";
+    SeStopLowNarrower: "the stop of SE must not be E", "15 | stop of SE | 1 to 3";
+    SeStopHighWider: "the stop of SE may be B", "15 | stop of SE | 1 to 3";
+    SeStopHighNarrower: "the stop of SE must not be C", "15 | stop of SE | 1 to 3";
+    CamLowWider: "a cam may lie at -100,000,001", "16-23 | cams SN1+, SN1-, SN2+ .. SN4- | ±100,000,000";
+    CamLowNarrower: "a cam must lie at -99,999,999 or above", "16-23 | cams SN1+, SN1-, SN2+ .. SN4- | ±100,000,000";
+    CamHighWider: "a cam may lie at 100,000,001", "16-23 | cams SN1+, SN1-, SN2+ .. SN4- | ±100,000,000";
+    CamHighNarrower: "a cam must lie at 99,999,999 or below", "16-23 | cams SN1+, SN1-, SN2+ .. SN4- | ±100,000,000";
+    CamToleranceLowWider: "the cam tolerance may be -1", "24 | cam tolerance | 0 to 100,000";
+    CamToleranceLowNarrower: "the cam tolerance must not be 0", "24 | cam tolerance | 0 to 100,000";
+    CamToleranceHighWider: "the cam tolerance may be 100,001", "24 | cam tolerance | 0 to 100,000";
+    CamToleranceHighNarrower: "the cam tolerance must be at most 99,999", "24 | cam tolerance | 0 to 100,000";
+    NxLowWider: "nx may be -1", "25 | nx | 0 to 1,000,000";
+    NxLowNarrower: "nx must not be 0", "25 | nx | 0 to 1,000,000";
+    NxHighWider: "nx may be 1,000,001", "25 | nx | 0 to 1,000,000";
+    NxHighNarrower: "nx must be at most 999,999", "25 | nx | 0 to 1,000,000";
+    PositionDifferenceLowWider: "the allowed position difference may be -1", "26 | allowed position difference | 0 to 100,000";
+    PositionDifferenceLowNarrower: "the allowed position difference must not be 0", "26 | allowed position difference | 0 to 100,000";
+    PositionDifferenceHighWider: "the allowed position difference may be 100,001", "26 | allowed position difference | 0 to 100,000";
+    PositionDifferenceHighNarrower: "the allowed position difference must be at most 99,999", "26 | allowed position difference | 0 to 100,000";
+    DelayLowWider: "data 27 and 28 may be -1", "27, 28 | delay of a lower selection; allowed input difference | 0 to 1,000";
+    DelayLowNarrower: "data 27 and 28 must not be 0", "27, 28 | delay of a lower selection; allowed input difference | 0 to 1,000";
+    DelayHighWider: "data 27 and 28 may be 1,001", "27, 28 | delay of a lower selection; allowed input difference | 0 to 1,000";
+    DelayHighNarrower: "data 27 and 28 must be at most 999", "27, 28 | delay of a lower selection; allowed input difference | 0 to 1,000";
+    TimeLowWider: "a stop's time may be -1", "29-32 | times of STOP C, D, E; B to A | 0 to 1,000";
+    TimeLowNarrower: "a stop's time must not be 0", "29-32 | times of STOP C, D, E; B to A | 0 to 1,000";
+    TimeHighWider: "a stop's time may be 1,001", "29-32 | times of STOP C, D, E; B to A | 0 to 1,000";
+    TimeHighNarrower: "a stop's time must be at most 999", "29-32 | times of STOP C, D, E; B to A | 0 to 1,000";
+    ShutdownLowWider: "the shutdown speed may be -1", "33 | shutdown speed | 0 to 1,000,000";
+    ShutdownLowNarrower: "the shutdown speed must not be 0", "33 | shutdown speed | 0 to 1,000,000";
+    ShutdownHighWider: "the shutdown speed may be 1,000,001", "33 | shutdown speed | 0 to 1,000,000";
+    ShutdownHighNarrower: "the shutdown speed must be at most 999,999", "33 | shutdown speed | 0 to 1,000,000";
+    FTimeLowWider: "the time from F to B may be -1", "34 | time from F to B | 0 to 1,000";
+    FTimeLowNarrower: "the time from F to B must not be 0", "34 | time from F to B | 0 to 1,000";
+    FTimeHighWider: "the time from F to B may be 1,001", "34 | time from F to B | 0 to 1,000";
+    FTimeHighNarrower: "the time from F to B must be at most 999", "34 | time from F to B | 0 to 1,000";
+    OverrideLowWider: "an override may be 0 percent", "35-50 | override percent 0 to 15 | 1 to 100";
+    OverrideLowNarrower: "an override must be at least 2 percent", "35-50 | override percent 0 to 15 | 1 to 100";
+    OverrideHighWider: "an override may be 101 percent", "35-50 | override percent 0 to 15 | 1 to 100";
+    OverrideHighNarrower: "an override must be at most 99 percent", "35-50 | override percent 0 to 15 | 1 to 100";
+    FunctionsSeAndCamsSwapped: "function bit 1 is the cams and bit 2 is SE", "1 | functions; bit 0 SBH/SG, 1 SE, 2 cams, 3 n<nx, 4 external stops";
+    FunctionsNxAndStopsSwapped: "function bit 3 is the external stops and bit 4 is n<nx", "1 | functions; bit 0 SBH/SG, 1 SE, 2 cams, 3 n<nx, 4 external stops";
+
+    // Words.
+    PiecesLeastFirst: "the first piece is the least significant", "Kind 3: piece, 16 bits, most significant first.";
+    PositionUnsigned: "a position is read without its sign", "Kind 4: position, 28 bits two's complement.";
+    InputHalvesSwapped: "kind 5 holds the upper half of the input word", "Kinds 5 and 6: lower and upper 16 bits of the input word.";
+    AcknowledgedByZero: "bit 0 of kind 7 acknowledges when it is 0", "Kind 7: cycle end, bit 0 acknowledges.";
+    AcknowledgesOnlyA: "an acknowledgement in a log reaches channel A only", "Kind 7: cycle end, bit 0 acknowledges.";
+    AcknowledgesOnlyB: "an acknowledgement in a log reaches channel B only", "Kind 7: cycle end, bit 0 acknowledges.";
+    RemarkBitsMustBeZero: "a remark with a bit set is refused", "Kind 15: remark, 28 free bits.";
+
+    // Whole numbers.
+    WholeSignAndMagnitude: "form 0 is read as sign and magnitude", "forms 0 (two's complement), 1, 2 with 2, 2, 4 pieces";
+    WholeBeyondIs3: "form 0 beyond ±134,217,727 is refused with number 3", "A float stands for a whole number if it equals one of magnitude at most 134,217,727 (form 0 beyond it: number 4)";
+    FractionCutOff: "a float's fraction is cut off", "A float stands for a whole number if it equals one";
+    FractionRounded: "a float is rounded to the nearest whole number", "A float stands for a whole number if it equals one";
+    FloatLimitOneMore: "134,217,728 is still a whole number", "of magnitude at most 134,217,727";
+    FloatLimitOneLess: "134,217,727 is no whole number", "of magnitude at most 134,217,727";
+    FloatSignLost: "a float is read without its sign", "A float stands for a whole number if it equals one";
+    MinusZeroRefused: "minus zero is refused with number 3", "minus zero stands for 0";
+    NanIsZero: "not-a-number stands for 0", "float stands for no whole number | 3";
+    InfinityIsTooLarge: "an infinity is refused with number 4", "float stands for no whole number | 3";
+    SubnormalIsZero: "a subnormal float stands for 0", "A float stands for a whole number if it equals one";
+    Binary64Through32: "a binary64 is rounded to a binary32 first", "A datum arrives as a 32-bit whole number, a binary32 or a binary64 (IEEE 754)";
+
+    // The list and its refusals.
+    HeadValueIgnored: "a head of any value is taken", "Kind 1: list head, value 51.";
+    DatumNumberIgnored: "a datum word of any number is taken", "A list is a head and the data in number order.";
+    DatumBitsIgnored: "unused bits of a datum word are ignored", "the top 4 bits are the kind, unused bits 0";
+    PieceKindIgnored: "a piece may be of any kind", "list word missing, of wrong kind, number or bits | 1";
+    PieceBitsIgnored: "unused bits of a piece are ignored", "the top 4 bits are the kind, unused bits 0";
+    RemarkInListPassedOver: "a remark between two data of a list is passed over", "A word between records that is a remark is passed over";
+    OpenIsLowest: "an open datum is its range's lowest value", "datum open | 2";
+    OpenGoesLast: "an open datum is told only if the list has no other fault", "The first faulty datum gives the answer";
+    OpenBeforeBits: "an open datum of wrong number or bits is refused with number 2", "per datum 1, 2, 3, 4";
+    RangeBeforeWhole: "a float that is no whole number and out of range is refused with number 4", "per datum 1, 2, 3, 4";
+    StructureFirst: "the structure of the whole list is looked at before any value", "The first faulty datum gives the answer";
+    LastFaultAnswers: "the last datum out of range gives the answer", "The first faulty datum gives the answer";
+    SurplusPieceIsOwnFault: "a surplus piece is a fault 1 of the datum before it", "per datum 1, 2, 3, 4 (a surplus piece is the next datum's wrong first word)";
+    PiecesBehindOpenAreOwnFault: "pieces behind an open datum are its own fault 1", "Form 3 is open: entered later, no pieces.";
+    SeEndsAtOnce: "number 5 is told as soon as the plus end is read", "per datum 1, 2, 3, 4; then 5";
+    Se2EndsFirst: "the ends of SE2 are looked at before those of SE1", "then 5, SE1 first";
+    SeEndsMayBeEqual: "an SE minus equal to its plus is taken", "SE minus not below its plus | 5";
+    SeEndsOnlyWithFunction: "number 5 is looked at only with function SE on", "SE minus not below its plus | 5 | place of the minus datum";
+    Se1EndsNotChecked: "the ends of SE1 may stand in any order", "SE minus not below its plus | 5";
+    Se2EndsNotChecked: "the ends of SE2 may stand in any order", "SE minus not below its plus | 5";
+    SeEndsPlaceOfPlus: "number 5 comes with the place of the plus datum", "5 | place of the minus datum";
+    OpenPlaceBehind: "number 2 comes with the place behind the datum word", "datum open | 2 | place of its kind 2 word";
+    FractionPlaceOfPiece: "number 3 comes with the place of the first piece", "float stands for no whole number | 3 | same";
+    RangePlaceOfPiece: "number 4 comes with the place of the first piece", "datum out of range | 4 | same";
+    PlaceOfDatumWord: "number 1 comes with the place of the datum's kind 2 word", "list word missing, of wrong kind, number or bits | 1 | place";
+    MissingPlaceIsLast: "a missing list word has the place of the last word", "a missing word has the place behind the last one";
+    PlacesFromOne: "places in a list count from 1", "Places count from 0 in the part given";
+    PlacesOfBFromKit: "places in list B count from the kit's front", "Places count from 0 in the part given";
+    PlacesOfLogFromKit: "places in the log count from the kit's front", "Places count from 0 in the part given";
+    ListBIsListA: "channel B takes the data of list A", "Each channel has its own list of 51 data";
+
+    // The log and its refusals.
+    LogLimitHalved: "a log over 8,192 words is refused", "log over 16,384 words";
+    RemarkInRecordPassedOver: "a remark inside a record is passed over", "A word between records that is a remark is passed over";
+    RemarkBeforeFirstRefused: "a remark before the first record is refused", "A word between records that is a remark is passed over, also before the first and after the last.";
+    RemarkAfterLastRefused: "a remark after the last record is refused", "A word between records that is a remark is passed over, also before the first and after the last.";
+    RemarkBetweenRefused: "a remark between two records is refused", "A word between records that is a remark is passed over";
+    RemarksOnlyRefused: "a log of remarks only is refused", "An empty log is accepted. (a log of remarks only: 0 cycles)";
+    RemarksNotCounted: "places in the log do not count remarks", "Places count from 0 in the part given";
+    EmptyLogRefused: "an empty log is refused", "An empty log is accepted.";
+    LowerBitsIgnored: "unused bits of kind 5 are ignored", "the top 4 bits are the kind, unused bits 0";
+    UpperBitsIgnored: "unused bits of kind 6 are ignored", "the top 4 bits are the kind, unused bits 0";
+    EndBitsIgnored: "unused bits of kind 7 are ignored", "the top 4 bits are the kind, unused bits 0";
+    BStandsFirst: "a record holds B's words before A's", "A log is cycle records: kinds 4, 5, 6 of A, the same of B, then 7.";
+    CutRecordDropped: "a last record that is cut off is left out", "a word missing or wrong | 6";
+    PlaceOfRecord: "number 6 comes with the place of the record's first word", "log over 16,384 words, or a word missing or wrong | 6 | 16,384, or place";
+    LogMissingPlaceIsLast: "a missing log word has the place of the last word", "a missing word has the place behind the last one";
+    LinesBeforeRefusal: "the cycles before a wrong log word are run and listed", "6 | Left as it was: output, channels";
+    BSeesNewK: "channel B's report from A uses A's k of the next cycle", "datum k by the data and k of the channel given (both k from before the cycle)";
+    ReportsItself: "each channel gets its own position and inputs as report", "In a log the report is the other channel's";
+
+    // Safe inputs and reports.
+    Position100000001Usable: "±100,000,001 is usable", "or if the position lies outside ±100,000,000";
+    Position100000000Unusable: "±100,000,000 is unusable", "or if the position lies outside ±100,000,000";
+    NegativePositionsUsable: "every negative position is usable", "or if the position lies outside ±100,000,000";
+    PositionsUsable: "every position is usable", "or if the position lies outside ±100,000,000";
+    OtherBitsIgnored: "the input bits without a meaning are ignored", "Every other bit must be 0.";
+    Bit2Ignored: "input bit 2 may be 1", "Every other bit must be 0.";
+    Bits5To11Ignored: "input bits 5 to 11 may be 1", "Every other bit must be 0.";
+    Bits13To17Ignored: "input bits 13 to 17 may be 1", "Every other bit must be 0.";
+    Bits22To27Ignored: "input bits 22 to 27 may be 1", "Every other bit must be 0.";
+    KRisesFirst: "k rises before the comparison", "k starts at 0, rises by one each cycle";
+    KStaysUnusable: "k stays in an unusable cycle", "k starts at 0, rises by one each cycle";
+    KStays: "k is always 0", "k starts at 0, rises by one each cycle";
+    KOnlyTo49: "k follows 49 by 0", "and follows 50 by 0";
+    KStopsAt50: "k stays at 50", "and follows 50 by 0";
+    KFromDatum1: "k follows 50 by 1", "and follows 50 by 0";
+
+    // Step 1.
+    UnusableIsB: "an unusable cycle enters STOP B", "1. Unusable: cause 1, rank 5, not held.";
+    UnusableStaysHeld: "a held stop stays held in an unusable cycle", "1. Unusable: cause 1, rank 5, not held.";
+    UnusableIsPassing: "the rank of an unusable cycle lasts for that cycle only", "1. Unusable: cause 1, rank 5, not held.";
+    UnusableAcknowledged: "an acknowledgement in an unusable cycle clears", "steps 2 to 5 are skipped";
+    UnusableKeepsPrevious: "the previous position is kept over an unusable cycle", "The previous position is forgotten";
+    UnusableBecomesPrevious: "an unusable position becomes the previous one", "The previous position is forgotten";
+    UnusableDelayFalls: "the delay's count falls in an unusable cycle", "counts, runs, F, selections, references and cams stay";
+    UnusableDelayEnds: "an unusable cycle ends the delay's count", "counts, runs, F, selections, references and cams stay";
+    UnusableRunEnds: "an unusable cycle ends the run of differing inputs", "counts, runs, F, selections, references and cams stay";
+    UnusableRunCounts: "an unusable cycle counts in the run of differing inputs", "11 input words differ in more than datum 28 usable cycles running";
+    UnusableFOff: "an unusable cycle puts F off", "counts, runs, F, selections, references and cams stay";
+    UnusableSelectionLost: "nothing is effective from an unusable cycle on", "counts, runs, F, selections, references and cams stay";
+    UnusableNextIsFirst: "the first selection after an unusable cycle is effective at once", "counts, runs, F, selections, references and cams stay";
+    UnusableReferenceAnew: "the SBH reference is taken anew after an unusable cycle", "counts, runs, F, selections, references and cams stay";
+    UnusableCamsOff: "an unusable cycle puts the cam signals to 0", "counts, runs, F, selections, references and cams stay";
+    UnusableCamsShow0: "the cams show 0 in an unusable cycle", "counts, runs, F, selections, references and cams stay";
+    UnusableCamsWorkedOut: "the cams are worked out in an unusable cycle too", "counts, runs, F, selections, references and cams stay";
+    UnusableNxShown: "n<nx shows 1 in an unusable cycle", "n<nx shows 0 in an unusable cycle";
+
+    // Step 2.
+    FirstStepFromZero: "without a previous position d is the position", "2. d = position less previous position, 0 if there is none.";
+
+    // Step 3.
+    SelectionFunctionIgnored: "SBH and SG are selected with function 0 off too", "3. Selected: nothing if function 0 is off or input bit 0 is 1";
+    Bit0Ignored: "input bit 0 is ignored", "3. Selected: nothing if function 0 is off or input bit 0 is 1";
+    Bit0Turned: "input bit 0 de-selects by 0", "3. Selected: nothing if function 0 is off or input bit 0 is 1";
+    Bit1Turned: "input bit 1 selects SBH by 1", "else SBH if bit 1 is 0";
+    SbhBeforeBit0: "SBH is selected by bit 1 even if bit 0 is 1", "nothing if function 0 is off or input bit 0 is 1; else SBH if bit 1 is 0";
+    SgBitsSwapped: "bit 3 is the upper bit of the SG number", "3-4 SG number less one";
+    SbhLeastStrict: "SBH is less strict than every SG", "Order: nothing, SG by limit × percent, SBH strictest.";
+    NothingStrictest: "selecting nothing is stricter than SBH", "Order: nothing, SG by limit × percent, SBH strictest.";
+    OrderByLimit: "SGs are ordered by their limit alone", "Order: nothing, SG by limit × percent, SBH strictest.";
+    OrderByNumber: "the SG of greater number is stricter", "Order: nothing, SG by limit × percent, SBH strictest.";
+    OverrideOnSg1: "the override applies to SG1 too", "The override applies to SG2 and SG4 only; others have 100.";
+    OverrideOnSg3: "the override applies to SG3 too", "Not so: scaling SG3";
+    NoOverrideOnSg2: "the override does not apply to SG2", "The override applies to SG2 and SG4 only; others have 100.";
+    NoOverrideOnSg4: "the override does not apply to SG4", "The override applies to SG2 and SG4 only; others have 100.";
+    OverrideBitsTurned: "the override number is counted from 15 down", "28-31 override";
+    FirstDelayed: "the first selection is delayed", "The first usable selection becomes effective immediately";
+    FirstIsNotNothing: "the first SG or SBH is effective at once, nothing before it does not count", "The first usable selection becomes effective immediately";
+    LooserDelayed: "a less strict selection is delayed too", "as does a later one that is no stricter";
+    EqualIsLowering: "another SG of equal limit × percent counts as a lowering", "as does a later one that is no stricter";
+    StricterAtOnce: "a stricter selection is effective at once", "A stricter one sets a count to datum 27";
+    SbhAtOnce: "SBH is effective at once", "A stricter one sets a count to datum 27";
+    DelaySetAnew: "each further lowering sets the delay anew", "Not so: restarting the delay at each lowering";
+    DelayOneMore: "a delay is one cycle longer", "A stricter one sets a count to datum 27; the count falls in later usable cycles";
+    DelayOneLess: "a delay is one cycle shorter", "A stricter one sets a count to datum 27; the count falls in later usable cycles";
+    DelayZeroNextCycle: "with datum 27 at 0 a lowering binds in the next cycle", "at 0 the present selection becomes effective (datum 27 at 0: in the same cycle)";
+    FirstLoweringBinds: "the selection that set the count becomes effective at 0", "at 0 the present selection becomes effective";
+    PartWayUpEndsCount: "a selection no stricter than the waiting one ends the count", "A selection no stricter ends the count. (than the effective one)";
+    LooserKeepsCount: "a selection no stricter leaves the count as it is", "A selection no stricter ends the count.";
+    OverrideAtOnce: "the present override applies to the effective SG", "A selection of an SG is its number with its override number.";
+    SbhReferenceMoves: "the SBH reference is each cycle's previous position", "its reference is the position, kept while SBH is effective";
+    SbhReferenceFromSelection: "the SBH reference is the position where SBH was selected", "When SBH becomes effective and was not so before, its reference is the position";
+    SbhReferenceForever: "the SBH reference is taken once and never again", "When SBH becomes effective and was not so before, its reference is the position";
+    SbhReferenceIsReport: "the SBH reference is the other channel's position", "When SBH becomes effective and was not so before, its reference is the position";
+
+    // Step 4.
+    SbhAtTolerance: "cause 2 stands at the tolerance itself", "2 SBH, distance from reference over datum 2, rank 4";
+    SbhPlusSideOnly: "cause 2 looks at the plus side only", "2 SBH, distance from reference over datum 2, rank 4";
+    SbhMinusSideOnly: "cause 2 looks at the minus side only", "2 SBH, distance from reference over datum 2, rank 4";
+    SbhRankA: "cause 2 has rank 5", "2 SBH, distance from reference over datum 2, rank 4";
+    SbhRankC: "cause 2 has rank 3", "2 SBH, distance from reference over datum 2, rank 4";
+    SbhBySelected: "cause 2 goes by the present selection", "4. Causes (2 and 3 by the effective selection)";
+    SgAtLimit: "cause 3 stands at the limit itself", "3 SG, |d| × 6000 > limit × percent × T";
+    SgDivides: "|d| × 60 is divided by T before it is compared with the limit", "Not so: dividing before comparing a speed";
+    SgPlusDirectionOnly: "cause 3 looks at the plus direction only", "3 SG, |d| × 6000 > limit × percent × T";
+    SgMinusDirectionOnly: "cause 3 looks at the minus direction only", "3 SG, |d| × 6000 > limit × percent × T";
+    SgWithoutT: "cause 3 takes T as 12", "3 SG, |d| × 6000 > limit × percent × T";
+    SgOnePercentMore: "cause 3 takes the percent one more", "3 SG, |d| × 6000 > limit × percent × T";
+    SgBySelected: "cause 3 goes by the present selection", "4. Causes (2 and 3 by the effective selection)";
+    SgRankOfSg1: "cause 3 has the stop of SG1 for every SG", "3 SG, .. rank by datum";
+    SgRankC: "cause 3 always has rank 3", "3 SG, .. rank by datum";
+    SeAtMinus: "cause 4 stands at the minus end itself", "position below its minus or above its plus";
+    SeAtPlus: "cause 4 stands at the plus end itself", "position below its minus or above its plus";
+    SeMinusIgnored: "cause 4 looks at the plus end only", "position below its minus or above its plus";
+    SePlusIgnored: "cause 4 looks at the minus end only", "position below its minus or above its plus";
+    SeBitTurned: "bit 12 chooses SE1 by 1", "12 SE2 instead of SE1";
+    SeAlways1: "bit 12 is ignored, SE1 is watched", "4 SE as chosen by bit 12";
+    SeBothWatched: "both SE1 and SE2 are watched", "4 SE as chosen by bit 12";
+    SeRankC: "cause 4 always has rank 3", "rank by datum 15";
+    SeFunctionIgnored: "cause 4 stands with function SE off too", "4 to 8 need their function on.";
+    StopsSetBy1: "external stops are asked for by 1", "Not so: reading external stops as set by 1";
+    StopBitsReversed: "bits 18-21 are external E, D, C, A", "18-21 external STOP A, C, D, E de-selected";
+    StopAIgnored: "the external STOP A is ignored", "5, 6, 7, 8 external A, C, D, E, its input bit 0, rank its own.";
+    StopCIgnored: "the external STOP C is ignored", "5, 6, 7, 8 external A, C, D, E, its input bit 0, rank its own.";
+    StopDIgnored: "the external STOP D is ignored", "5, 6, 7, 8 external A, C, D, E, its input bit 0, rank its own.";
+    StopEIgnored: "the external STOP E is ignored", "5, 6, 7, 8 external A, C, D, E, its input bit 0, rank its own.";
+    StopAIsB: "the external STOP A has rank 4", "5, 6, 7, 8 external A, C, D, E, its input bit 0, rank its own.";
+    StopFunctionIgnored: "external stops count with function 4 off too", "4 to 8 need their function on.";
+    HoldAtTolerance: "cause 9 stands at the tolerance itself", "9 held, distance from the hold's reference over datum 2, rank 4";
+    HoldNotWatched: "a held stop is not watched", "9 held, distance from the hold's reference over datum 2, rank 4";
+    HoldPlusSideOnly: "cause 9 looks at the plus side only", "9 held, distance from the hold's reference over datum 2, rank 4";
+    HoldMinusSideOnly: "cause 9 looks at the minus side only", "9 held, distance from the hold's reference over datum 2, rank 4";
+    HoldByDatum26: "cause 9 takes the allowed position difference as tolerance", "9 held, distance from the hold's reference over datum 2, rank 4";
+    HoldRankA: "cause 9 has rank 5", "9 held, distance from the hold's reference over datum 2, rank 4";
+    HoldRankC: "cause 9 has rank 3", "9 held, distance from the hold's reference over datum 2, rank 4";
+    DifferenceAtBound: "cause 10 stands at the allowed difference itself", "10 position differs from the report by more than datum 26";
+    DifferenceOneSided: "cause 10 looks only at a position above the report", "10 position differs from the report by more than datum 26";
+    DifferenceIgnored: "cause 10 never stands", "10 position differs from the report by more than datum 26";
+    InputsAtBound: "cause 11 stands in the allowed number of cycles already", "11 input words differ in more than datum 28 usable cycles running";
+    InputsOneLater: "cause 11 stands one cycle later", "11 input words differ in more than datum 28 usable cycles running";
+    InputsInAll: "cause 11 counts differing cycles that are not running", "11 input words differ in more than datum 28 usable cycles running";
+    InputsUsableForBoth: "cause 11 counts only cycles usable for both channels", "usable cycles running (usable for this channel)";
+    InputsLowerHalf: "cause 11 compares the lower halves only", "that cycle's position and whole input word and its datum k";
+    InputsIgnored: "cause 11 never stands", "11 input words differ in more than datum 28 usable cycles running";
+    DatumIgnored: "cause 12 never stands", "12 datum k differs";
+    DatumOneOffAllowed: "cause 12 lets a difference of one pass", "12 datum k differs";
+    OtherUnusableLeftOut: "causes 10 and 11 leave out an unusable report", "10 position differs from the report (the other's unusable report: compared as it is)";
+    FTimeSetAnew: "each of 10, 11, 12 sets the count from F to B anew", "10, 11, 12 set F and, if F is new, its count to datum 34";
+    FTimeOneMore: "the time from F to B is one cycle longer", "its count to datum 34; the count falls in later usable cycles";
+    FTimeOneLess: "the time from F to B is one cycle shorter", "its count to datum 34; the count falls in later usable cycles";
+    FTimeZeroNextCycle: "with datum 34 at 0 cause 13 stands in the next cycle", "at 0, with F on, stands cause 13 (datum 34 at 0: in the same cycle)";
+    FWithoutB: "F never leads to STOP B", "at 0, with F on, stands cause 13, rank 4, in every case";
+    Cause13OnlyAlone: "cause 13 stands only where no other cause does", "at 0, with F on, stands cause 13, rank 4, in every case";
+    Cause13OnlyWithoutF: "cause 13 stands only where none of 10, 11, 12 does", "at 0, with F on, stands cause 13, rank 4, in every case";
+    Cause13RankA: "cause 13 has rank 5", "stands cause 13, rank 4";
+    Cause13RankC: "cause 13 has rank 3", "stands cause 13, rank 4";
+    Cause2NotFresh: "cause 2 is not fresh", "All but 13 are fresh.";
+    Cause3NotFresh: "cause 3 is not fresh", "All but 13 are fresh.";
+    Cause4NotFresh: "cause 4 is not fresh", "All but 13 are fresh.";
+    StopsNotFresh: "causes 5 to 8 are not fresh", "All but 13 are fresh.";
+    Cause9NotFresh: "cause 9 is not fresh", "All but 13 are fresh.";
+    Cause10NotFresh: "cause 10 is not fresh", "All but 13 are fresh.";
+    Cause11NotFresh: "cause 11 is not fresh", "All but 13 are fresh.";
+    Cause12NotFresh: "cause 12 is not fresh", "All but 13 are fresh.";
+    Cause13Fresh: "cause 13 is fresh and holds an acknowledgement up", "All but 13 are fresh.";
+
+    // Step 5.
+    AcknowledgementWins: "an acknowledgement wins over a fresh cause", "Not so: letting an acknowledgement win over a fresh cause";
+    AcknowledgementIgnored: "an acknowledgement never clears", "5. Acknowledged and no fresh cause: rank 0, not held, F off.";
+    ClearNeedsNoAcknowledgement: "a cycle without a fresh cause clears", "5. Acknowledged and no fresh cause: rank 0, not held, F off.";
+    ClearKeepsHold: "clearing leaves a held stop", "5. Acknowledged and no fresh cause: rank 0, not held, F off.";
+    ClearKeepsF: "clearing leaves F on", "5. Acknowledged and no fresh cause: rank 0, not held, F off.";
+    ClearNotA: "STOP A is never cleared", "5. Acknowledged and no fresh cause: rank 0, not held, F off.";
+    ClearEndsRun: "clearing ends the run of differing inputs", "5. Acknowledged and no fresh cause: rank 0, not held, F off. (nothing else)";
+    ClearEndsDelay: "clearing ends the delay's count", "5. Acknowledged and no fresh cause: rank 0, not held, F off. (nothing else)";
+    ClearSetsK: "clearing puts k to 0", "5. Acknowledged and no fresh cause: rank 0, not held, F off. (nothing else)";
+    ClearForgetsPrevious: "clearing forgets the previous position", "5. Acknowledged and no fresh cause: rank 0, not held, F off. (nothing else)";
+    ClearSetsReference: "clearing takes the SBH reference anew", "5. Acknowledged and no fresh cause: rank 0, not held, F off. (nothing else)";
+    WeakestEntered: "the weakest cause is entered", "Else the strongest cause, if above the rank, is entered";
+    FirstEntered: "the cause of lowest code is entered", "Else the strongest cause, if above the rank, is entered";
+    EqualEntered: "a cause equal to the rank is entered again", "Else the strongest cause, if above the rank, is entered";
+    WeakerEntered: "a weaker cause takes the rank down", "Else the strongest cause, if above the rank, is entered";
+    HeldTakesNone: "a held stop takes no stronger one but by cause 9", "Else the strongest cause, if above the rank, is entered";
+    BrakingTakesNone: "a stop that is not yet held takes no stronger one", "Else the strongest cause, if above the rank, is entered";
+    EntryStaysHeld: "a stronger stop stays held", "is entered with its count from data 29-32 (0 for A), not held";
+    TimesCAndDSwapped: "STOP C takes datum 30 and D datum 29", "29-32 | times of STOP C, D, E; B to A";
+    TimesDAndESwapped: "STOP D takes datum 31 and E datum 30", "29-32 | times of STOP C, D, E; B to A";
+    TimeBIsE: "STOP B takes datum 31", "29-32 | times of STOP C, D, E; B to A";
+    TimeOneMore: "each stop's time is one cycle longer", "is entered with its count from data 29-32";
+    TimeOneLess: "each stop's time is one cycle shorter", "is entered with its count from data 29-32";
+    TimeZeroNextCycle: "with a time of 0 a stop is held, or B becomes A, in the next cycle", "In the first cycle where the count is 0, entry included";
+    CountWaitsForCause: "the count falls only in cycles without a cause", "else the count falls by one";
+    CNotHeld: "STOP C is never held", "C, D and E are held with the position as reference";
+    DNotHeld: "STOP D is never held", "C, D and E are held with the position as reference";
+    ENotHeld: "STOP E is never held", "C, D and E are held with the position as reference";
+    BNotToA: "STOP B never becomes A by its time", "and B becomes A";
+    BAtOnceA: "STOP B becomes A on entry", "and B becomes A";
+    HoldReferenceMoves: "the hold's reference follows the position", "The reference then stays while the hold lasts.";
+    HoldReferenceFromEntry: "the hold's reference is the position of the stop's entry", "C, D and E are held with the position as reference";
+    ShutdownAtBound: "B becomes A at the shutdown speed itself", "B also becomes A where |d| × 60 < datum 33 × T.";
+    ShutdownIgnored: "the shutdown speed is ignored", "B also becomes A where |d| × 60 < datum 33 × T.";
+    ShutdownNotOnEntry: "the shutdown speed is looked at only after the entry cycle", "B also becomes A where |d| × 60 < datum 33 × T. (the entry cycle too)";
+    ShutdownAlsoC: "C becomes A below the shutdown speed too", "B also becomes A where |d| × 60 < datum 33 × T.";
+    ShutdownSigned: "the shutdown speed is compared with d, not |d|", "B also becomes A where |d| × 60 < datum 33 × T.";
+    ShutdownWithoutT: "the shutdown speed takes T as 12", "B also becomes A where |d| × 60 < datum 33 × T.";
+    ShutdownDivides: "datum 33 × T is divided by 60 before |d| is compared with it", "Not so: dividing before comparing a speed";
+
+    // Step 6.
+    CamAtUpper: "a cam signal is 1 at edge + datum 24 already", "6. Cam signal 1 above edge + datum 24, 0 below edge, else as before; fresh 0.";
+    CamAtEdge: "a cam signal is 0 at the edge already", "6. Cam signal 1 above edge + datum 24, 0 below edge, else as before; fresh 0.";
+    CamBetweenIs0: "between edge and edge + datum 24 a cam signal is 0", "6. Cam signal 1 above edge + datum 24, 0 below edge, else as before; fresh 0.";
+    CamBetweenIs1: "between edge and edge + datum 24 a cam signal is 1", "6. Cam signal 1 above edge + datum 24, 0 below edge, else as before; fresh 0.";
+    CamsStartAt1: "fresh cam signals are 1", "6. Cam signal 1 above edge + datum 24, 0 below edge, else as before; fresh 0.";
+    CamToleranceBelow: "the cam tolerance lies below the edge", "6. Cam signal 1 above edge + datum 24, 0 below edge, else as before; fresh 0.";
+    CamToleranceBothSides: "the cam tolerance lies on both sides of the edge", "6. Cam signal 1 above edge + datum 24, 0 below edge, else as before; fresh 0.";
+    CamMinusTurned: "the minus cams show 1 below their edge", "8-15 cams in data order";
+    CamPairsSwapped: "plus and minus cams change places", "8-15 cams in data order";
+    CamsReversed: "the cams stand in reverse order", "8-15 cams in data order";
+    CamLastIgnored: "SN4- always shows 0", "16-23 | cams SN1+, SN1-, SN2+ .. SN4-";
+    CamFunctionIgnored: "cams show with their function off", "Cams and n<nx show 0 while their function is off";
+    NxAtBound: "n<nx shows 1 at nx itself", "n<nx: |d| × 60 < datum 25 × T.";
+    NxSigned: "n<nx goes by d, not |d|", "n<nx: |d| × 60 < datum 25 × T.";
+    NxWithoutT: "n<nx takes T as 12", "n<nx: |d| × 60 < datum 25 × T.";
+    NxDivides: "datum 25 × T is divided by 60 before |d| is compared with it", "Not so: dividing before comparing a speed";
+    NxNeedsPrevious: "n<nx shows 0 without a previous position", "2. d = position less previous position, 0 if there is none.";
+    NxFunctionIgnored: "n<nx shows with its function off", "Cams and n<nx show 0 while their function is off";
+
+    // The channel word.
+    Bit0OnlySbh: "bit 0 shows SBH only", "bit 0 SBH or SG effective";
+    Bit0OnlySg: "bit 0 shows SG only", "bit 0 SBH or SG effective";
+    Bit0Selected: "bit 0 shows the present selection", "bit 0 SBH or SG effective";
+    Bit2AlsoB: "bit 2 is set in STOP B too", "2 pulses cancelled (rank 5)";
+    Bit2Never: "bit 2 is never set", "2 pulses cancelled (rank 5)";
+    Bit7Zero: "bit 7 is 0", "7 always 1";
+    CamBitsMoved: "the cams stand in bits 9-16", "8-15 cams in data order";
+    SgBitsMoved: "the effective SG stands in bits 18-19", "19-20 effective SG less one, else 0";
+    SgBitsNotLessOne: "bits 19-20 hold the SG number itself", "19-20 effective SG less one, else 0";
+    SgBitsSelected: "bits 19-20 hold the selected SG", "19-20 effective SG less one, else 0";
+    SgBitsUnderSbh: "bits 19-20 show the input's SG number under SBH too", "19-20 effective SG less one, else 0";
+    NxBitMoved: "n<nx stands in bit 22", "21 n<nx";
+    RankBitsMoved: "the rank stands in bits 25-27", "24-26 rank";
+    HeldBitMoved: "held stands in bit 29", "27 held";
+    HeldAndFSwapped: "held stands in bit 28 and F in bit 27", "27 held, 28 F";
+    FBitUntil13: "the F bit is 0 once cause 13 stands", "28 F";
+    HeldBitAtRest: "the held bit is set only where the axis stands still", "27 held";
+
+    // The device.
+    DeviceLesser: "the device rank is the lesser", "Device rank is the greater";
+    DeviceOnlyA: "the device rank is channel A's", "Device rank is the greater";
+    DeviceOnlyB: "the device rank is channel B's", "Device rank is the greater";
+    DeviceBit0Turned: "bit 0 of the device word is pulses off", "device word: bit 0 pulses on, if rank is below 5";
+    DevicePulsesInA: "pulses stay on at rank 5", "device word: bit 0 pulses on, if rank is below 5";
+    DeviceNoPulsesInB: "pulses are off at rank 4 already", "device word: bit 0 pulses on, if rank is below 5";
+    DeviceRankMoved: "the device rank stands in bits 2-4", "bits 1-3 rank";
+
+    // The bench program.
+    KitOneWordLess: "a kit of 65,536 bytes is refused", "at most 65,536 bytes in whole words, else number 6, place 0, L";
+    KitOneWordMore: "a kit of 65,540 bytes is taken", "at most 65,536 bytes in whole words, else number 6, place 0, L";
+    KitSizeAfterLists: "the kit's size is looked at after the lists", "at most 65,536 bytes in whole words, else number 6, place 0, L";
+    KitPartWordLeftOut: "bytes behind the last whole word are left out", "at most 65,536 bytes in whole words, else number 6, place 0, L";
+    KitPartWordFilled: "a last word that is cut off is filled with zeros", "at most 65,536 bytes in whole words, else number 6, place 0, L";
+    KitSizePlaceIsLength: "a kit of wrong size is refused with its length in words", "else number 6, place 0, L";
+    KitSizeIsA: "a kit of wrong size is refused with A", "else number 6, place 0, L";
+    LeastByteFirst: "words stand least significant byte first", "words most significant byte first";
+    CycleFromZero: "cycles count from 0", "A line is the cycle from 1";
+    CycleHexadecimal: "the cycle stands in hexadecimal", "cycle decimal";
+    ChannelWordsShort: "channel words stand without leading zeros", "channel words 8 digits";
+    DeviceWordTwoDigits: "the device word has two digits", "device word without leading zeros";
+    DeviceWordDecimal: "the device word stands in decimal", "in hexadecimal";
+    WordsOfBFirst: "B's word stands before A's", "A line is the cycle from 1, A's word, B's word, the device word";
+    UpperCase: "hexadecimal is upper case", "hexadecimal is lower case";
+    TwoSpaces: "fields stand two spaces apart", "Fields stand one space apart";
+    LastLineFeedLost: "the last line has no line feed", "a line feed ends each line";
+    CarriageReturns: "a carriage return stands before each line feed", "a line feed ends each line";
+    EmptyListingLineFeed: "a listing without cycles is a line feed", "a line feed ends each line";
+    RefusalPlaceHexadecimal: "a refusal's place stands in hexadecimal", "`refused`, number, place (both decimal) and A, B or L";
+    RefusalFieldsSwapped: "a refusal gives the place before the number", "`refused`, number, place (both decimal) and A, B or L";
+    RefusalOfBSaysA: "a refusal of list B says A", "`refused`, number, place (both decimal) and A, B or L";
+    RefusalOfLogSaysB: "a refusal of the log says B", "`refused`, number, place (both decimal) and A, B or L";
+    RefusalCapital: "a refusal begins with a capital", "`refused`, number, place (both decimal) and A, B or L";
+    RefusalLineFeedLost: "a refusal has no line feed", "a line feed ends each line";
+}

@@ -1,0 +1,45 @@
+//! A reference bench model of the two-channel axis monitor of document 01.
+//!
+//! The modules stand in document 01's order and use its words. Each function quotes the
+//! sentence that it stands for.
+//!
+//! In an expression `paper!(r, right, Deviation => wrong, ..)` the first part is document 01.
+//! The lines behind it are wrong programs that a good kit notices; a reader of the monitor
+//! may pass them over, and the compiler does so too: with [`Paper`] they fold away.
+
+// Document 01, from top to bottom.
+pub mod words;
+
+pub mod whole;
+
+pub mod machine_data;
+
+pub mod list;
+
+pub mod stop;
+
+pub mod selection;
+
+pub mod causes;
+
+pub mod channel;
+
+pub mod device;
+
+pub mod log;
+
+pub mod listing;
+
+// Wrong readings of it, to try kits with.
+pub mod deviation;
+
+// Kits as people write them.
+pub mod kit;
+
+// Kits by chance.
+pub mod random;
+
+pub use channel::{Channel, Cycle, Report};
+pub use deviation::{Deviant, Deviation, Paper, Reading};
+pub use list::Refusal;
+pub use machine_data::MachineData;

@@ -1,0 +1,193 @@
+//! Machine data: "Each channel has its own list of 51 data, numbers 0 to 50."
+
+use crate::deviation::{paper, Deviation, Deviation::*, Reading};
+use crate::list::{self, Refusal};
+
+/// "51 data, numbers 0 to 50"
+pub const COUNT: usize = 51;
+
+/// The numbers of the data.
+pub mod number {
+    /// "0 | T"
+    pub const T: usize = 0;
+    /// "1 | functions"
+    pub const FUNCTIONS: usize = 1;
+    /// "2 | standstill tolerance"
+    pub const STANDSTILL: usize = 2;
+    /// "3-6 | limits SG1 to SG4"
+    pub const SG_LIMIT: usize = 3;
+    /// "7-10 | stops of SG1 to SG4"
+    pub const SG_STOP: usize = 7;
+    /// "11-14 | SE1 minus, SE1 plus, SE2 minus, SE2 plus"
+    pub const SE1_MINUS: usize = 11;
+    /// "11-14 | SE1 minus, SE1 plus, SE2 minus, SE2 plus"
+    pub const SE1_PLUS: usize = 12;
+    /// "11-14 | SE1 minus, SE1 plus, SE2 minus, SE2 plus"
+    pub const SE2_MINUS: usize = 13;
+    /// "11-14 | SE1 minus, SE1 plus, SE2 minus, SE2 plus"
+    pub const SE2_PLUS: usize = 14;
+    /// "15 | stop of SE"
+    pub const SE_STOP: usize = 15;
+    /// "16-23 | cams SN1+, SN1-, SN2+ .. SN4-"
+    pub const CAM: usize = 16;
+    /// "24 | cam tolerance"
+    pub const CAM_TOLERANCE: usize = 24;
+    /// "25 | nx"
+    pub const NX: usize = 25;
+    /// "26 | allowed position difference"
+    pub const POSITION_DIFFERENCE: usize = 26;
+    /// "27, 28 | delay of a lower selection; allowed input difference"
+    pub const DELAY: usize = 27;
+    /// "27, 28 | delay of a lower selection; allowed input difference"
+    pub const INPUT_DIFFERENCE: usize = 28;
+    /// "29-32 | times of STOP C, D, E; B to A"
+    pub const TIME_C: usize = 29;
+    /// "29-32 | times of STOP C, D, E; B to A"
+    pub const TIME_D: usize = 30;
+    /// "29-32 | times of STOP C, D, E; B to A"
+    pub const TIME_E: usize = 31;
+    /// "29-32 | times of STOP C, D, E; B to A"
+    pub const TIME_B: usize = 32;
+    /// "33 | shutdown speed"
+    pub const SHUTDOWN: usize = 33;
+    /// "34 | time from F to B"
+    pub const TIME_F: usize = 34;
+    /// "35-50 | override percent 0 to 15"
+    pub const OVERRIDE: usize = 35;
+}
+
+/// "1 | functions; bit 0 SBH/SG, 1 SE, 2 cams, 3 n<nx, 4 external stops"
+#[derive(Clone, Copy, Debug, PartialEq, Eq)]
+pub enum Function {
+    SbhSg = 0,
+    Se = 1,
+    Cams = 2,
+    Nx = 3,
+    ExternalStops = 4,
+}
+
+/// The data of an accepted list: each lies in its range, and each SE minus below its plus.
+#[derive(Clone, Copy, Debug, PartialEq, Eq)]
+pub struct MachineData {
+    data: [i32; COUNT],
+}
+
+impl MachineData {
+    /// The data, refused with number 4 or 5 and the datum's number as place.
+    pub fn new(data: [i32; COUNT]) -> Result<MachineData, Refusal> {
+        for (number, &value) in data.iter().enumerate() {
+            let (low, high) = range(number);
+            if value < low || value > high {
+                return Err(Refusal {
+                    number: 4,
+                    place: number,
+                });
+            }
+        }
+        list::se_ends(crate::Paper, &data, &std::array::from_fn(|number| number))?;
+        Ok(MachineData { data })
+    }
+
+    /// Data that a reader has looked through already.
+    pub(crate) fn looked_through(data: [i32; COUNT]) -> MachineData {
+        MachineData { data }
+    }
+
+    /// "else lowest", with 12 and 14 at 100,000,000.
+    pub fn lowest() -> MachineData {
+        let data = std::array::from_fn(lowest);
+        MachineData { data }
+    }
+
+    /// The datum of this number; 0 if there is none.
+    #[inline]
+    pub fn get(&self, number: usize) -> i32 {
+        self.data.get(number).copied().unwrap_or(0)
+    }
+
+    /// The 51 data.
+    pub fn data(&self) -> &[i32; COUNT] {
+        &self.data
+    }
+
+    /// "1 | functions; bit 0 SBH/SG, 1 SE, 2 cams, 3 n<nx, 4 external stops"
+    #[inline]
+    pub fn has<R: Reading>(&self, r: R, function: Function) -> bool {
+        let bit = paper!(r, function as u32,
+            FunctionsSeAndCamsSwapped => [0, 2, 1, 3, 4][function as usize],
+            FunctionsNxAndStopsSwapped => [0, 1, 2, 4, 3][function as usize]);
+        self.data[number::FUNCTIONS] >> bit & 1 == 1
+    }
+
+    /// A speed's side of a comparison: "datum 33 × T", "datum 25 × T".
+    #[inline]
+    pub fn times_t(&self, speed: i32) -> i64 {
+        i64::from(speed) * i64::from(self.data[number::T])
+    }
+}
+
+/// The value that a list without further word gives a datum.
+pub fn lowest(number: usize) -> i32 {
+    match number {
+        number::SE1_PLUS | number::SE2_PLUS => range(number).1,
+        _ => range(number).0,
+    }
+}
+
+/// The column "Range" of the machine data.
+pub const fn range(number: usize) -> (i32, i32) {
+    match number {
+        0 => (1, 25),
+        1 => (0, 31),
+        2 => (0, 100_000),
+        3..=6 => (1, 1_000_000),
+        7..=10 => (1, 5),
+        11..=14 => (-100_000_000, 100_000_000),
+        15 => (1, 3),
+        16..=23 => (-100_000_000, 100_000_000),
+        24 => (0, 100_000),
+        25 => (0, 1_000_000),
+        26 => (0, 100_000),
+        27 | 28 => (0, 1_000),
+        29..=32 => (0, 1_000),
+        33 => (0, 1_000_000),
+        34 => (0, 1_000),
+        35..=50 => (1, 100),
+        _ => (0, 0),
+    }
+}
+
+/// [`range`] by any reading: a deviation has one end of one row one off.
+#[inline]
+pub fn range_as<R: Reading>(r: R, number: usize) -> (i32, i32) {
+    let (low, high) = range(number);
+    let by = one_off(number).map(|deviation| i32::from(r.deviates(deviation)));
+    let [low_wider, low_narrower, high_wider, high_narrower] = by;
+    (
+        low - low_wider + low_narrower,
+        high + high_wider - high_narrower,
+    )
+}
+
+/// The deviations of a row: its low end wider and narrower, its high end wider and narrower.
+#[rustfmt::skip]
+const fn one_off(number: usize) -> [Deviation; 4] {
+    match number {
+        0 => [TLowWider, TLowNarrower, THighWider, THighNarrower],
+        1 => [FunctionsLowWider, FunctionsLowNarrower, FunctionsHighWider, FunctionsHighNarrower],
+        2 => [StandstillLowWider, StandstillLowNarrower, StandstillHighWider, StandstillHighNarrower],
+        3..=6 => [SgLimitLowWider, SgLimitLowNarrower, SgLimitHighWider, SgLimitHighNarrower],
+        7..=10 => [SgStopLowWider, SgStopLowNarrower, SgStopHighWider, SgStopHighNarrower],
+        11..=14 => [SeEndLowWider, SeEndLowNarrower, SeEndHighWider, SeEndHighNarrower],
+        15 => [SeStopLowWider, SeStopLowNarrower, SeStopHighWider, SeStopHighNarrower],
+        16..=23 => [CamLowWider, CamLowNarrower, CamHighWider, CamHighNarrower],
+        24 => [CamToleranceLowWider, CamToleranceLowNarrower, CamToleranceHighWider, CamToleranceHighNarrower],
+        25 => [NxLowWider, NxLowNarrower, NxHighWider, NxHighNarrower],
+        26 => [PositionDifferenceLowWider, PositionDifferenceLowNarrower, PositionDifferenceHighWider, PositionDifferenceHighNarrower],
+        27 | 28 => [DelayLowWider, DelayLowNarrower, DelayHighWider, DelayHighNarrower],
+        29..=32 => [TimeLowWider, TimeLowNarrower, TimeHighWider, TimeHighNarrower],
+        33 => [ShutdownLowWider, ShutdownLowNarrower, ShutdownHighWider, ShutdownHighNarrower],
+        34 => [FTimeLowWider, FTimeLowNarrower, FTimeHighWider, FTimeHighNarrower],
+        _ => [OverrideLowWider, OverrideLowNarrower, OverrideHighWider, OverrideHighNarrower],
+    }
+}

@@ -1,0 +1,321 @@
+//! A log that drives two channels of the model to their bounds.
+
+use super::Xorshift;
+use crate::channel::{bit, Channel};
+use crate::machine_data::{number, Function, MachineData, COUNT};
+use crate::selection::Selection;
+use crate::stop::Rank;
+use crate::{words, Paper};
+
+/// The input bits of the external stops, all de-selected.
+const NO_STOP: u32 = 0xf << 18;
+
+/// A log of records and remarks for channels with these data.
+pub fn log(random: &mut Xorshift, data_a: &[i32; COUNT], data_b: &[i32; COUNT]) -> Vec<Vec<u32>> {
+    let cycles = match random.below(400) {
+        0 => random.between(1_000, 2_200),
+        1..=10 => 0,
+        11..=230 => random.between(2, 14),
+        231..=370 => random.between(10, 40),
+        371..=390 => random.between(50, 120),
+        _ => random.between(100, 400),
+    };
+    let remarks = random.pick(&[0, 0, 0, 10, 40]);
+    let mut driver = Driver::new(random, data_a, data_b);
+    let mut log = Vec::new();
+    for _ in 0..cycles {
+        push_remarks(driver.random, remarks, &mut log);
+        log.push(driver.record().to_vec());
+    }
+    push_remarks(random, remarks, &mut log);
+    log
+}
+
+fn push_remarks(random: &mut Xorshift, percent: usize, log: &mut Vec<Vec<u32>>) {
+    while random.percent(percent) {
+        let bits = random.pick(&[0, 1, 0x0fff_ffff, random.0 as u32]);
+        log.push(vec![words::remark(bits)]);
+    }
+}
+
+/// How a drive goes on the whole.
+#[derive(Clone, Copy)]
+struct Habits {
+    /// Percent of cycles in which the axis moves.
+    moves: usize,
+    /// Percent of moves that go to a bound.
+    bounds: usize,
+    /// Percent of cycles in which the inputs change.
+    changes: usize,
+    /// Percent of cycles with an external stop, if the inputs change.
+    stops: usize,
+    /// Percent of cycles in which the channels part.
+    parts: usize,
+    /// Percent of cycles that are unusable.
+    unusable: usize,
+    /// Percent of cycles that are acknowledged.
+    acknowledges: usize,
+}
+
+struct Driver<'a> {
+    random: &'a mut Xorshift,
+    habits: Habits,
+    a: Channel,
+    b: Channel,
+    position: i32,
+    inputs: u32,
+    inputs_b: u32,
+    /// Cycles for which the input words go on to differ.
+    differing: usize,
+}
+
+impl<'a> Driver<'a> {
+    fn new(random: &'a mut Xorshift, data_a: &[i32; COUNT], data_b: &[i32; COUNT]) -> Driver<'a> {
+        let fresh = |data| Channel::fresh(MachineData::looked_through(data));
+        let (a, b) = (fresh(*data_a), fresh(*data_b));
+        let calm = random.percent(50);
+        let habits = Habits {
+            moves: random.pick(&[20, 40, 60]),
+            bounds: random.pick(&[20, 50, 80]),
+            changes: random.pick(&[10, 25, 50]),
+            stops: random.pick(&[0, 10, 30]),
+            parts: if calm { 0 } else { random.pick(&[2, 6, 20]) },
+            unusable: if calm { 0 } else { random.pick(&[0, 2, 6, 15]) },
+            acknowledges: random.pick(&[0, 10, 30, 60]),
+        };
+        let position = a.data().get(number::SE1_PLUS) - random.pick(&[0, 1, 10]);
+        let mut driver = Driver {
+            random,
+            habits,
+            a,
+            b,
+            position,
+            inputs: 0,
+            inputs_b: 0,
+            differing: 0,
+        };
+        driver.inputs = driver.selection() | NO_STOP;
+        driver
+    }
+
+    /// The next record, run on both channels.
+    fn record(&mut self) -> [u32; 7] {
+        let mut position = self.next_position();
+        let inputs = self.next_inputs();
+        let mut position_b = self.position_b(position);
+        let mut inputs_b = self.inputs_b(inputs);
+        let (mut inputs, position_kept) = (inputs, position);
+        if self.random.percent(self.habits.unusable) {
+            match self.random.below(6) {
+                0 => position = self.far_position(),
+                1 => position_b = self.far_position(),
+                2 => inputs |= self.odd_bit(),
+                3 => inputs_b |= self.odd_bit(),
+                4 => {
+                    inputs |= self.odd_bit();
+                    inputs_b = inputs;
+                }
+                _ => {
+                    position = self.far_position();
+                    position_b = position;
+                }
+            }
+        }
+        let acknowledged = self.acknowledged();
+        let from_a = self.a.report(position, inputs);
+        let from_b = self.b.report(position_b, inputs_b);
+        self.a.cycle(position, inputs, acknowledged, from_b);
+        self.b.cycle(position_b, inputs_b, acknowledged, from_a);
+        self.position = position_kept;
+        words::record((position, inputs), (position_b, inputs_b), acknowledged)
+    }
+
+    /// The channel that the next bound is taken from.
+    fn either(&mut self) -> Channel {
+        if self.random.percent(70) {
+            self.a
+        } else {
+            self.b
+        }
+    }
+
+    fn acknowledged(&mut self) -> bool {
+        let stopped = self.a.stop().rank != Rank::None || self.a.f().on;
+        let percent = self.habits.acknowledges;
+        self.random
+            .percent(if stopped { percent } else { percent / 4 })
+    }
+
+    fn next_position(&mut self) -> i32 {
+        let (minus, plus) = self.se();
+        let outside = self.position < minus || self.position > plus;
+        if outside && self.random.percent(30) {
+            return minus + (plus - minus) / 2;
+        }
+        if !self.random.percent(self.habits.moves) {
+            return self.position;
+        }
+        let moved = match self.random.percent(self.habits.bounds) {
+            true => self.bound(),
+            false => i64::from(self.position) + self.random.pick(&[-3, -1, 1, 1, 2, 7]),
+        };
+        moved.clamp(-100_000_000, 100_000_000) as i32
+    }
+
+    /// The ends of the SE that is chosen.
+    fn se(&self) -> (i32, i32) {
+        let data = self.a.data();
+        match bit(self.inputs, 12) {
+            false => (data.get(number::SE1_MINUS), data.get(number::SE1_PLUS)),
+            true => (data.get(number::SE2_MINUS), data.get(number::SE2_PLUS)),
+        }
+    }
+
+    /// A position at, or one beside, something that is watched.
+    fn bound(&mut self) -> i64 {
+        let channel = self.either();
+        let data = channel.data();
+        let beside = self.random.pick(&[-1, 0, 0, 1, 1]);
+        let side = self.random.pick(&[-1, 1]);
+        let standstill = i64::from(data.get(number::STANDSTILL));
+        let here = i64::from(channel.previous().unwrap_or(self.position));
+        match self.random.below(9) {
+            0 | 1 => match channel.stop().held {
+                Some(reference) => i64::from(reference) + side * (standstill + beside),
+                None => here + side * (self.sg_step(&channel) + beside),
+            },
+            2 | 3 => match channel.selections().effective {
+                Selection::Sbh => {
+                    i64::from(channel.selections().reference) + side * (standstill + beside)
+                }
+                _ => here + side * (self.sg_step(&channel) + beside),
+            },
+            4 => {
+                let end = self.random.pick(&[11, 12, 13, 14]);
+                i64::from(data.get(end)) + beside
+            }
+            5 | 6 => {
+                let edge = data.get(number::CAM + self.random.below(8));
+                let tolerance = data.get(number::CAM_TOLERANCE);
+                let tolerance = self.random.pick(&[0, tolerance, tolerance, -tolerance]);
+                i64::from(edge) + i64::from(tolerance) + beside
+            }
+            7 => {
+                let speed = self.random.pick(&[number::NX, number::SHUTDOWN]);
+                here + side * (data.times_t(data.get(speed)) / 60 + beside)
+            }
+            _ => {
+                let end = side * 100_000_000;
+                self.random
+                    .pick(&[here, here + side * 150, here + side * 40, end])
+            }
+        }
+    }
+
+    /// The longest step that some SG lets pass.
+    fn sg_step(&mut self, channel: &Channel) -> i64 {
+        let (sg, override_number) = match channel.selections().effective {
+            Selection::Sg {
+                sg,
+                override_number,
+            } => (sg, override_number),
+            _ => (self.random.below(4) as u8, self.random.below(16) as u8),
+        };
+        let other = (self.inputs >> 28) as u8;
+        let override_number = self.random.pick(&[override_number, override_number, other]);
+        let data = channel.data();
+        let product = Selection::limit_percent(Paper, data, sg, override_number);
+        product * i64::from(data.get(number::T)) / 6000
+    }
+
+    fn next_inputs(&mut self) -> u32 {
+        if self.random.percent(self.habits.changes) {
+            let kept = self.inputs;
+            self.inputs = match self.random.below(8) {
+                0..=3 => kept & !0xf000_001b | self.selection(),
+                4 => kept ^ 1 << 12,
+                5 => kept & 0x0fff_ffff | (self.random.below(16) as u32) << 28,
+                6 => kept ^ self.random.pick(&[1, 2, 8, 16]),
+                _ => kept ^ 0x1000_0000,
+            };
+            self.inputs |= NO_STOP;
+            let stops = self.a.data().has(Paper, Function::ExternalStops);
+            if stops && self.random.percent(self.habits.stops) {
+                self.inputs &= !((self.random.next() as u32 & self.random.next() as u32) & NO_STOP);
+            }
+            if !stops && self.random.percent(20) {
+                self.inputs &= !NO_STOP;
+            }
+        }
+        self.inputs
+    }
+
+    /// The bits of a selection with an override.
+    fn selection(&mut self) -> u32 {
+        let override_number = if self.random.percent(50) {
+            self.random.below(16) as u32
+        } else {
+            0
+        };
+        let selection = match self.random.below(10) {
+            0 => 1,
+            1 => self.random.below(4) as u32 | (self.random.below(4) as u32) << 3,
+            2 | 3 => 0,
+            _ => 2 | (self.random.below(4) as u32) << 3,
+        };
+        selection | override_number << 28
+    }
+
+    fn position_b(&mut self, position: i32) -> i32 {
+        if !self.random.percent(self.habits.parts) {
+            return position;
+        }
+        let allowed = self.either().data().get(number::POSITION_DIFFERENCE);
+        let apart = allowed + self.random.pick(&[-1, 0, 0, 1, 1, 2]);
+        let side = self.random.pick(&[-1, 1]);
+        (position + side * apart).clamp(-100_000_000, 100_000_000)
+    }
+
+    fn inputs_b(&mut self, inputs: u32) -> u32 {
+        if self.differing == 0 && self.random.percent(self.habits.parts) {
+            let allowed = self
+                .either()
+                .data()
+                .get(number::INPUT_DIFFERENCE)
+                .clamp(0, 5);
+            self.differing = (allowed + self.random.pick(&[0, 1, 1, 2])) as usize;
+            let odd = self
+                .random
+                .pick(&[1, 2, 8, 16, 1 << 12, 1 << 18, 1 << 21, 1 << 28, 1 << 31]);
+            self.inputs_b = odd;
+        }
+        if self.differing == 0 {
+            return inputs;
+        }
+        self.differing -= 1;
+        inputs ^ self.inputs_b
+    }
+
+    fn far_position(&mut self) -> i32 {
+        self.random.pick(&[
+            100_000_001,
+            -100_000_001,
+            100_000_001,
+            134_217_727,
+            -134_217_728,
+            120_000_000,
+        ])
+    }
+
+    /// One bit that has no meaning.
+    fn odd_bit(&mut self) -> u32 {
+        loop {
+            let number = self
+                .random
+                .pick(&[2, 5, 11, 13, 17, 22, 27, 6, 8, 10, 14, 16, 23, 25]);
+            if !bit(crate::channel::INPUT_BITS, number) {
+                return 1 << number;
+            }
+        }
+    }
+}

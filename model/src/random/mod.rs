@@ -1,0 +1,264 @@
+//! Seeded random kits with structure: valid ones, steered by the model so that every rule has
+//! its turn, and damaged ones, at every layer.
+
+mod damage;
+mod drive;
+mod reached;
+
+pub use reached::Reached;
+
+use crate::machine_data::{range, MachineData, COUNT};
+use crate::words;
+
+/// A seeded xorshift.
+#[derive(Clone, Debug)]
+pub struct Xorshift(u64);
+
+impl Xorshift {
+    /// Any seed will do; neighbouring ones give unlike sequences.
+    pub fn new(seed: u64) -> Xorshift {
+        let mixed = (seed ^ 0x5851_f42d_4c95_7f2d).wrapping_mul(0x9e37_79b9_7f4a_7c15);
+        let mut random = Xorshift((mixed ^ mixed >> 29).max(1));
+        random.next();
+        random.next();
+        random
+    }
+
+    /// The next 64 bits.
+    #[allow(clippy::should_implement_trait)]
+    pub fn next(&mut self) -> u64 {
+        self.0 ^= self.0 << 13;
+        self.0 ^= self.0 >> 7;
+        self.0 ^= self.0 << 17;
+        self.0.wrapping_mul(0x2545_f491_4f6c_dd1d)
+    }
+
+    /// A number from 0 to one below the end.
+    pub fn below(&mut self, end: usize) -> usize {
+        ((self.next() >> 32) as usize) % end.max(1)
+    }
+
+    /// A number between these, both included.
+    pub fn between(&mut self, low: i64, high: i64) -> i64 {
+        let width = high.saturating_sub(low).max(0) as u64 + 1;
+        low + (self.next() >> 8).checked_rem(width).unwrap_or(0) as i64
+    }
+
+    /// Whether a thing of so many percent happens.
+    pub fn percent(&mut self, percent: usize) -> bool {
+        self.below(100) < percent
+    }
+
+    /// One of these.
+    pub fn pick<T: Copy>(&mut self, of: &[T]) -> T {
+        of[self.below(of.len())]
+    }
+}
+
+/// The structured kit of a seed: about two in three are accepted.
+pub fn kit(seed: u64) -> Vec<u8> {
+    let mut random = Xorshift::new(seed);
+    let parts = parts(&mut random);
+    if random.percent(64) {
+        parts.bytes()
+    } else {
+        damage::damage(&mut random, parts)
+    }
+}
+
+/// Random bytes: whole words or not, of any kinds or mostly of those of lists and logs.
+pub fn bytes(seed: u64) -> Vec<u8> {
+    let mut random = Xorshift::new(seed);
+    let length = random.pick(&[0, 1, 3, 4, 8, 40, 400, 1500]);
+    let mut bytes: Vec<u8> = (0..length).map(|_| random.next() as u8).collect();
+    if random.percent(60) {
+        bytes.truncate(bytes.len() / 4 * 4);
+    }
+    if random.percent(60) {
+        for first in bytes.iter_mut().step_by(4) {
+            *first = random.pick(&[0x10, 0x20, 0x30, 0x40, 0x50, 0x60, 0x70, 0xf0]);
+        }
+    }
+    bytes
+}
+
+/// A kit in its parts.
+pub(crate) struct Parts {
+    pub head_a: Vec<u32>,
+    pub list_a: Vec<Vec<u32>>,
+    pub head_b: Vec<u32>,
+    pub list_b: Vec<Vec<u32>>,
+    /// Records and runs of remarks.
+    pub log: Vec<Vec<u32>>,
+    pub tail: Vec<u8>,
+}
+
+impl Parts {
+    pub fn bytes(&self) -> Vec<u8> {
+        let words = self.head_a.iter();
+        let words = words
+            .chain(self.list_a.iter().flatten())
+            .chain(&self.head_b);
+        let words = words.chain(self.list_b.iter().flatten());
+        let words = words.chain(self.log.iter().flatten());
+        let mut bytes: Vec<u8> = words.flat_map(|word| word.to_be_bytes()).collect();
+        bytes.extend_from_slice(&self.tail);
+        bytes
+    }
+}
+
+/// A valid kit in its parts.
+fn parts(random: &mut Xorshift) -> Parts {
+    let data_a = data(random);
+    let data_b = other_data(random, &data_a);
+    let log = drive::log(random, &data_a, &data_b);
+    Parts {
+        head_a: vec![words::head()],
+        list_a: list(random, &data_a),
+        head_b: vec![words::head()],
+        list_b: list(random, &data_b),
+        log,
+        tail: Vec::new(),
+    }
+}
+
+/// Machine data whose bounds lie close to each other, so that a short log can reach them.
+fn data(random: &mut Xorshift) -> [i32; COUNT] {
+    let mut data = *MachineData::lowest().data();
+    let near = random.pick(&[0, 0, 0, 0, 0, 0, 99_999_000, -99_999_000]);
+    let times = random.pick(&[
+        &[0, 0, 1, 2, 3][..],
+        &[0, 1, 2, 3, 5, 8],
+        &[0],
+        &[1, 2],
+        &[0, 3, 1000],
+    ]);
+    for (number, datum) in data.iter_mut().enumerate() {
+        *datum = match number {
+            0 => random.pick(&[12, 12, 12, 1, 2, 7, 11, 13, 25, 10]),
+            1 => functions(random),
+            2 => random.pick(&[0, 1, 5, 10, 10, 30, 100, 100_000]),
+            3..=6 => random.pick(&[
+                1, 50, 100, 500, 1000, 1999, 2000, 2000, 3000, 5000, 1_000_000,
+            ]),
+            7..=10 => random.between(1, 5) as i32,
+            11 | 13 => near - random.pick(&[0, 1, 50, 100, 300, 500, 1000]),
+            12 | 14 => near + random.pick(&[1, 2, 50, 100, 300, 500, 1000]),
+            15 => random.between(1, 3) as i32,
+            16..=23 => near + random.between(-300, 300) as i32,
+            24 => random.pick(&[0, 1, 5, 20, 20, 100, 100_000]),
+            25 => random.pick(&[0, 1, 5, 50, 500, 501, 1000, 1_000_000]),
+            26 => random.pick(&[0, 1, 5, 5, 20, 100_000]),
+            27 => random.pick(times),
+            28 => random.pick(&[0, 0, 1, 1, 2, 3, 1000]),
+            29..=32 => random.pick(times),
+            33 => random.pick(&[0, 0, 0, 1, 50, 500, 1_000_000]),
+            34 => random.pick(times),
+            _ => random.pick(&[1, 10, 50, 50, 99, 100, 100, 100]),
+        };
+    }
+    if random.percent(4) {
+        at_range_ends(random, &mut data);
+    }
+    for (datum, number) in data.iter_mut().zip(0..) {
+        let (low, high) = range(number);
+        *datum = (*datum).clamp(low, high);
+    }
+    order_se(&mut data);
+    data
+}
+
+/// The functions: mostly all on, SBH/SG nearly always.
+fn functions(random: &mut Xorshift) -> i32 {
+    let some = random.pick(&[31, 31, 31, 29, 15, 13, 17, 19, 1, 1, 30, 2, 4, 8, 16]);
+    some ^ random.pick(&[0, 0, 0, 0, 0, 1, 2, 4, 8, 16])
+}
+
+/// Each datum at one end of its range.
+fn at_range_ends(random: &mut Xorshift, data: &mut [i32; COUNT]) {
+    for (number, datum) in data.iter_mut().enumerate() {
+        let (low, high) = range(number);
+        *datum = match number {
+            11 | 13 => low,
+            12 | 14 => high,
+            _ => random.pick(&[low, high]),
+        };
+    }
+}
+
+/// Puts each SE minus below its plus.
+fn order_se(data: &mut [i32; COUNT]) {
+    for minus in [11, 13] {
+        let low = data[minus].min(data[minus + 1]);
+        let high = data[minus].max(data[minus + 1]);
+        data[minus] = low.min(99_999_999);
+        data[minus + 1] = high.max(data[minus] + 1);
+    }
+}
+
+/// The data of list B: mostly those of A, else with a few of its own.
+fn other_data(random: &mut Xorshift, data_a: &[i32; COUNT]) -> [i32; COUNT] {
+    let mut data_b = *data_a;
+    if random.percent(75) {
+        return data_b;
+    }
+    if random.percent(10) {
+        return data(random);
+    }
+    for _ in 0..random.pick(&[1, 1, 1, 2, 4]) {
+        let number = match random.below(3) {
+            0 => random.below(COUNT),
+            1 => random.below(12),
+            _ => random.pick(&[0, 1, 49, 50]),
+        };
+        let (low, high) = range(number);
+        let near = data_b[number] + random.pick(&[-2, -1, 1, 1, 2]);
+        data_b[number] = near.clamp(low, high);
+    }
+    order_se(&mut data_b);
+    data_b
+}
+
+/// The data as they arrive: whole numbers, binary32 and binary64.
+fn list(random: &mut Xorshift, data: &[i32; COUNT]) -> Vec<Vec<u32>> {
+    let floats = random.pick(&[0, 0, 0, 10, 100]);
+    let datum = |(number, &value): (usize, &i32)| match random.percent(floats) {
+        false => whole(number, value),
+        true => {
+            let single = value as f32;
+            let bits = if value == 0 && random.percent(50) {
+                1 << 31
+            } else {
+                single.to_bits()
+            };
+            match random.percent(50) && single as i32 == value {
+                true => binary32(number, bits),
+                false if value == 0 => binary64(number, u64::from(bits) << 32),
+                false => binary64(number, f64::from(value).to_bits()),
+            }
+        }
+    };
+    data.iter().enumerate().map(datum).collect()
+}
+
+pub(crate) fn whole(number: usize, value: i32) -> Vec<u32> {
+    let bits = value as u32;
+    vec![
+        words::datum(number, 0),
+        words::piece(bits >> 16),
+        words::piece(bits),
+    ]
+}
+
+pub(crate) fn binary32(number: usize, bits: u32) -> Vec<u32> {
+    vec![
+        words::datum(number, 1),
+        words::piece(bits >> 16),
+        words::piece(bits),
+    ]
+}
+
+pub(crate) fn binary64(number: usize, bits: u64) -> Vec<u32> {
+    let pieces = [48, 32, 16, 0].map(|by| words::piece((bits >> by) as u32));
+    [vec![words::datum(number, 2)], pieces.to_vec()].concat()
+}

@@ -1,0 +1,146 @@
+//! Words: lists and logs are 32-bit words.
+
+use crate::deviation::{paper, Reading};
+
+/// "Kind 1: list head, value 51."
+pub const HEAD: u32 = 1;
+/// "Kind 2: datum, number in bits 16-23, form in bits 0-1."
+pub const DATUM: u32 = 2;
+/// "Kind 3: piece, 16 bits, most significant first."
+pub const PIECE: u32 = 3;
+/// "Kind 4: position, 28 bits two's complement."
+pub const POSITION: u32 = 4;
+/// "Kinds 5 and 6: lower and upper 16 bits of the input word."
+pub const LOWER: u32 = 5;
+/// "Kinds 5 and 6: lower and upper 16 bits of the input word."
+pub const UPPER: u32 = 6;
+/// "Kind 7: cycle end, bit 0 acknowledges."
+pub const END: u32 = 7;
+/// "Kind 15: remark, 28 free bits."
+pub const REMARK: u32 = 15;
+
+/// "the top 4 bits are the kind"
+#[inline]
+pub fn kind(word: u32) -> u32 {
+    word >> 28
+}
+
+/// "unused bits 0": the used bits of a word of this kind, none if another bit is set.
+#[inline]
+fn value(word: u32, of_kind: u32, used: u32) -> Option<u32> {
+    (word & !used == of_kind << 28).then_some(word & used)
+}
+
+/// "Kind 1: list head, value 51."
+pub fn is_head<R: Reading>(r: R, word: u32) -> bool {
+    paper!(r, word == head(),
+        HeadValueIgnored => kind(word) == HEAD)
+}
+
+/// "Kind 2: datum, number in bits 16-23, form in bits 0-1.": the form of the datum's word.
+#[inline]
+pub fn form_of<R: Reading>(r: R, word: u32, number: usize) -> Option<u32> {
+    let word = paper!(r, word,
+        DatumBitsIgnored => word & 0xf0ff_0003,
+        DatumNumberIgnored => word & 0xff00_ffff | (number as u32 & 0xff) << 16);
+    (word & !3 == datum(number, 0)).then_some(word & 3)
+}
+
+/// "Kind 3: piece, 16 bits"
+#[inline]
+pub fn piece_of<R: Reading>(r: R, word: u32) -> Option<u32> {
+    paper!(r, value(word, PIECE, 0xffff),
+        PieceKindIgnored => value(word & 0x0fff_ffff, 0, 0xffff),
+        PieceBitsIgnored => value(word & 0xf000_ffff, PIECE, 0xffff))
+}
+
+/// "Kind 4: position, 28 bits two's complement."
+#[inline]
+pub fn position_of<R: Reading>(r: R, word: u32) -> Option<i32> {
+    let bits = value(word, POSITION, 0x0fff_ffff)?;
+    Some(paper!(r, (bits << 4) as i32 >> 4,
+        PositionUnsigned => bits as i32))
+}
+
+/// "Kinds 5 and 6: lower and upper 16 bits of the input word."
+#[inline]
+pub fn lower_of<R: Reading>(r: R, word: u32) -> Option<u32> {
+    paper!(r, value(word, LOWER, 0xffff),
+        LowerBitsIgnored => value(word & 0xf000_ffff, LOWER, 0xffff))
+}
+
+/// "Kinds 5 and 6: lower and upper 16 bits of the input word."
+#[inline]
+pub fn upper_of<R: Reading>(r: R, word: u32) -> Option<u32> {
+    paper!(r, value(word, UPPER, 0xffff),
+        UpperBitsIgnored => value(word & 0xf000_ffff, UPPER, 0xffff))
+}
+
+/// "Kind 7: cycle end, bit 0 acknowledges."
+#[inline]
+pub fn acknowledges<R: Reading>(r: R, word: u32) -> Option<bool> {
+    let bit = paper!(r, value(word, END, 1)?,
+        EndBitsIgnored => value(word & 0xf000_0001, END, 1)?);
+    Some(paper!(r, bit == 1,
+        AcknowledgedByZero => bit == 0))
+}
+
+/// "Kind 15: remark, 28 free bits."
+#[inline]
+pub fn is_remark<R: Reading>(r: R, word: u32) -> bool {
+    paper!(r, kind(word) == REMARK,
+        RemarkBitsMustBeZero => word == REMARK << 28)
+}
+
+/// "Kind 1: list head, value 51."
+pub const fn head() -> u32 {
+    HEAD << 28 | 51
+}
+
+/// "Kind 2: datum, number in bits 16-23, form in bits 0-1."
+pub const fn datum(number: usize, form: u32) -> u32 {
+    DATUM << 28 | (number as u32 & 0xff) << 16 | form & 3
+}
+
+/// "Kind 3: piece, 16 bits"
+pub const fn piece(bits: u32) -> u32 {
+    PIECE << 28 | bits & 0xffff
+}
+
+/// "Kind 4: position, 28 bits two's complement."
+pub const fn position(position: i32) -> u32 {
+    POSITION << 28 | position as u32 & 0x0fff_ffff
+}
+
+/// "Kinds 5 and 6: lower and upper 16 bits of the input word."
+pub const fn lower(inputs: u32) -> u32 {
+    LOWER << 28 | inputs & 0xffff
+}
+
+/// "Kinds 5 and 6: lower and upper 16 bits of the input word."
+pub const fn upper(inputs: u32) -> u32 {
+    UPPER << 28 | inputs >> 16
+}
+
+/// "Kind 7: cycle end, bit 0 acknowledges."
+pub const fn end(acknowledged: bool) -> u32 {
+    END << 28 | acknowledged as u32
+}
+
+/// "Kind 15: remark, 28 free bits."
+pub const fn remark(bits: u32) -> u32 {
+    REMARK << 28 | bits & 0x0fff_ffff
+}
+
+/// The words of a record: "kinds 4, 5, 6 of A, the same of B, then 7".
+pub const fn record(a: (i32, u32), b: (i32, u32), acknowledged: bool) -> [u32; 7] {
+    [
+        position(a.0),
+        lower(a.1),
+        upper(a.1),
+        position(b.0),
+        lower(b.1),
+        upper(b.1),
+        end(acknowledged),
+    ]
+}

@@ -1,0 +1,43 @@
+//! What the tests share: kits by their text, and a seeded xorshift.
+
+#![allow(dead_code)]
+
+use model::{kit, listing, MachineData};
+
+/// The bytes of a kit's text.
+pub fn bytes(text: &str) -> Vec<u8> {
+    match kit::assemble(text) {
+        Ok(bytes) => bytes,
+        Err(fault) => panic!("{fault}\n{text}"),
+    }
+}
+
+/// The listing of a kit's text.
+pub fn list(text: &str) -> String {
+    listing::list(&bytes(text))
+}
+
+/// Machine data that differ from the lowest in these.
+pub fn data(stated: &[(usize, i32)]) -> MachineData {
+    let mut data = *MachineData::lowest().data();
+    for &(number, value) in stated {
+        data[number] = value;
+    }
+    MachineData::new(data).expect("data in their ranges")
+}
+
+/// A seeded xorshift.
+pub struct Xorshift(pub u64);
+
+impl Xorshift {
+    pub fn next(&mut self) -> u64 {
+        self.0 ^= self.0 << 13;
+        self.0 ^= self.0 >> 7;
+        self.0 ^= self.0 << 17;
+        self.0
+    }
+
+    pub fn below(&mut self, end: u64) -> u64 {
+        self.next() % end
+    }
+}

@@ -1,0 +1,380 @@
+//! Where document 01 leaves a choice: the reading taken, by a kit and its listing worked out
+//! by hand, and that the kit tells the other reading apart.
+
+mod common;
+use common::{bytes, data};
+use model::Deviation::*;
+use model::{listing, Channel, Deviant, Deviation};
+
+/// A kit gives this listing, and another one by each of the other readings.
+fn row(text: &str, wanted: &str, others: &[Deviation]) {
+    let kit = bytes(&text.replace("; ", "\n"));
+    let wanted: String = wanted
+        .lines()
+        .map(|line| line.trim().to_owned() + "\n")
+        .collect();
+    assert_eq!(listing::list(&kit), wanted, "{text}");
+    for &other in others {
+        assert_ne!(
+            listing::list_as(Deviant(other), &kit),
+            wanted,
+            "{} {text}",
+            other.name()
+        );
+    }
+}
+
+#[test]
+fn b_becomes_a_at_shutdown_speed_in_the_entry_cycle_too() {
+    row(
+        "lists A and B; 0 = 12; 1 = 1; 2 = 10; 32 = 5; 33 = 1000; log; both 0 SBH; both 11 SBH",
+        "1 00000081 00000081 1
+         2 05000085 05000085 a",
+        &[ShutdownNotOnEntry],
+    );
+}
+
+#[test]
+fn k_rises_in_unusable_cycles_too() {
+    row(
+        "list A; 2 = 1; 34 = 1000; list B else as A; 2 = 2; log
+         both 0 SBH; both 100_000_001 SBH; both 0 SBH",
+        "1 00000080 00000080 1
+         2 05000084 05000084 a
+         3 15000084 15000084 a",
+        &[KStaysUnusable],
+    );
+}
+
+#[test]
+fn the_first_cycle_compares_datum_0() {
+    row(
+        "list A; 0 = 12; 34 = 1000; list B else as A; 0 = 13; log; both 0 SBH; both 0 SBH ack",
+        "1 10000080 10000080 1
+         2 00000080 00000080 1",
+        &[KRisesFirst],
+    );
+}
+
+#[test]
+fn the_place_of_number_1_is_the_faulty_word() {
+    let text = "list A; 1 = 0; cut 1 word; word 0x40000000; list B";
+    row(text, "refused 1 6 A", &[PlaceOfDatumWord]);
+}
+
+#[test]
+fn a_surplus_piece_is_the_next_datums_wrong_first_word() {
+    row(
+        "list A; 3 = 0; piece 0; list B",
+        "refused 4 10 A",
+        &[SurplusPieceIsOwnFault],
+    );
+    row(
+        "list A; 3 = binary32 0.5; piece 0; list B",
+        "refused 3 10 A",
+        &[SurplusPieceIsOwnFault],
+    );
+    row(
+        "list A; 3 = open; piece 0 times 2; list B",
+        "refused 2 10 A",
+        &[PiecesBehindOpenAreOwnFault],
+    );
+    row("list A; 3 = 1; piece 0; list B", "refused 1 13 A", &[]);
+    row("lists A and B; 50 = 1; piece 0", "refused 1 0 B", &[]);
+    row(
+        "list A; list B; log; piece 0",
+        "refused 6 0 L",
+        &[SurplusPieceIsOwnFault],
+    );
+}
+
+#[test]
+fn nothing_is_a_selection_too() {
+    row(
+        "lists A and B; 1 = 1; 27 = 3; log; both 0 off; both 0 SG1 times 4",
+        "1 00000080 00000080 1
+         2 00000080 00000080 1
+         3 00000080 00000080 1
+         4 00000080 00000080 1
+         5 00000081 00000081 1",
+        &[FirstIsNotNothing],
+    );
+}
+
+#[test]
+fn the_kits_size_is_looked_at_before_the_lists() {
+    row("byte 0x00", "refused 6 0 L", &[KitSizeAfterLists]);
+    row(
+        "word 0x00000000 times 16385",
+        "refused 6 0 L",
+        &[KitSizeAfterLists],
+    );
+    row("word 0x00000000 times 16384", "refused 1 0 A", &[]);
+}
+
+#[test]
+fn a_log_of_remarks_only_is_accepted() {
+    row(
+        "lists A and B; log; remark 0x1234567 times 3",
+        "",
+        &[RemarksOnlyRefused],
+    );
+    row("lists A and B", "", &[EmptyLogRefused]);
+}
+
+#[test]
+fn unused_bits_of_log_words_are_refused() {
+    let lists = "lists A and B; log; both 0 SBH; position 0;";
+    row(
+        &format!("{lists} word 0x50010000; upper 0; position 0; lower 0; upper 0; end"),
+        "refused 6 8 L",
+        &[LowerBitsIgnored],
+    );
+    row(
+        &format!("{lists} lower 0; word 0x68000000; position 0; lower 0; upper 0; end"),
+        "refused 6 9 L",
+        &[UpperBitsIgnored],
+    );
+    row(
+        &format!("{lists} lower 0; upper 0; position 0; lower 0; upper 0; word 0x70000002"),
+        "refused 6 13 L",
+        &[EndBitsIgnored],
+    );
+}
+
+#[test]
+fn cause_11_counts_cycles_usable_for_this_channel() {
+    row(
+        "lists A and B; 28 = 2; 34 = 1000; log
+         A 0 SBH, B 0 SG1; A 0 SBH, B 0 bit 2; A 0 SBH, B 0 SG1",
+        "1 00000080 00000080 1
+         2 00000080 05000084 a
+         3 10000080 05000084 a",
+        &[InputsUsableForBoth],
+    );
+}
+
+#[test]
+fn the_others_unusable_report_is_compared_as_it_is() {
+    row(
+        "lists A and B; 28 = 1000; 34 = 1000; log; A 0 SBH, B 100_000_001 SBH",
+        "1 10000080 05000084 a",
+        &[OtherUnusableLeftOut],
+    );
+    row(
+        "lists A and B; 34 = 1000; log; A 0 SBH, B 0 bit 2",
+        "1 10000080 05000084 a",
+        &[OtherUnusableLeftOut],
+    );
+}
+
+#[test]
+fn clearing_ends_rank_hold_and_f_only() {
+    row(
+        "lists A and B; 28 = 2; 34 = 1000; log
+         A 0 SBH, B 0 SG1; A 0 SBH, B 0 SG1, ack; A 0 SBH, B 0 SG1",
+        "1 00000080 00000080 1
+         2 00000080 00000080 1
+         3 10000080 10000080 1",
+        &[ClearEndsRun],
+    );
+    row(
+        "lists A and B; 1 = 1; 27 = 3; log; both 0 off; both 0 SG1; both 0 SG1 ack; both 0 SG1 times 2",
+        "1 00000080 00000080 1
+         2 00000080 00000080 1
+         3 00000080 00000080 1
+         4 00000080 00000080 1
+         5 00000081 00000081 1",
+        &[ClearEndsDelay],
+    );
+    row(
+        "list A; 3 = 2; 34 = 1000; list B else as A; 3 = 3; log; both 0 SBH; both 0 SBH ack; both 0 SBH times 2",
+        "1 00000080 00000080 1
+         2 00000080 00000080 1
+         3 00000080 00000080 1
+         4 10000080 10000080 1",
+        &[ClearSetsK],
+    );
+}
+
+#[test]
+fn number_5_is_looked_at_with_function_se_off_too() {
+    row(
+        "list A; 11 = 5; 12 = 5; list B",
+        "refused 5 34 A",
+        &[SeEndsOnlyWithFunction],
+    );
+    row(
+        "list A; 13 = 5; 14 = 4; list B",
+        "refused 5 40 A",
+        &[SeEndsOnlyWithFunction],
+    );
+}
+
+#[test]
+fn part_of_the_way_back_up_lets_the_count_go_on() {
+    row(
+        "lists A and B; 1 = 1; 3 = 3000; 5 = 2000; 27 = 3; log
+         both 0 SG1; both 0 SBH; both 0 SG3 times 3",
+        "1 00000081 00000081 1
+         2 00000081 00000081 1
+         3 00000081 00000081 1
+         4 00000081 00000081 1
+         5 00100081 00100081 1",
+        &[PartWayUpEndsCount],
+    );
+}
+
+#[test]
+fn times_of_0_take_effect_in_the_same_cycle() {
+    row(
+        "lists A and B; 1 = 1; log; both 0 off; both 0 SG1",
+        "1 00000080 00000080 1
+         2 00000081 00000081 1",
+        &[DelayZeroNextCycle],
+    );
+    for (stop, word, device) in [
+        ("C", "0b000080", "7"),
+        ("D", "0a000080", "5"),
+        ("E", "09000080", "3"),
+    ] {
+        row(
+            &format!("lists A and B; 1 = 16; log; both 0 no-stop; both 0 stop-{stop}"),
+            &format!("1 00000080 00000080 1\n2 {word} {word} {device}"),
+            &[TimeZeroNextCycle],
+        );
+    }
+    row(
+        "lists A and B; 1 = 1; log; both 0 SBH; both 1 SBH",
+        "1 00000081 00000081 1
+         2 05000085 05000085 a",
+        &[TimeZeroNextCycle],
+    );
+    row(
+        "lists A and B; 32 = 1000; log; A 0 SBH, B 1 SBH",
+        "1 14000080 14000080 9",
+        &[FTimeZeroNextCycle],
+    );
+}
+
+#[test]
+fn another_sg_of_equal_limit_is_effective_at_once() {
+    row(
+        "lists A and B; 1 = 1; 3 = 2000; 5 = 2000; 27 = 3; log; both 0 SG1; both 0 SG3",
+        "1 00000081 00000081 1
+         2 00100081 00100081 1",
+        &[EqualIsLowering],
+    );
+}
+
+#[test]
+fn a_lowered_override_waits_for_its_delay() {
+    row(
+        "lists A and B; 0 = 12; 1 = 1; 4 = 2000; 8 = 3; 27 = 2; 29 = 1000; 35 = 100; 36 = 50; log
+         both 0 SG2; both 300 SG2 override 1; both 600 SG2 override 1; both 900 SG2 override 1",
+        "1 00080081 00080081 1
+         2 00080081 00080081 1
+         3 00080081 00080081 1
+         4 03080081 03080081 7",
+        &[OverrideAtOnce],
+    );
+}
+
+#[test]
+fn the_first_faulty_datum_answers() {
+    row(
+        "list A; 0 = 0; skip 1; word 0x20020000; list B",
+        "refused 4 1 A",
+        &[StructureFirst],
+    );
+    row(
+        "list A, head 0x10000032; 0 = 0; list B",
+        "refused 1 0 A",
+        &[],
+    );
+    row(
+        "list A; 0 = open; 1 = 32; list B",
+        "refused 2 1 A",
+        &[OpenGoesLast],
+    );
+}
+
+#[test]
+fn cams_are_kept_and_shown_in_an_unusable_cycle() {
+    row(
+        "lists A and B; 0 = 12; 1 = 12; 25 = 1; log; both 0 SBH; both 100_000_001 SBH; both 0 SBH",
+        "1 0020ff80 0020ff80 1
+         2 0500ff84 0500ff84 a
+         3 0520ff84 0520ff84 a",
+        &[UnusableCamsShow0, UnusableNxShown, NxNeedsPrevious],
+    );
+}
+
+#[test]
+fn cause_13_alone_does_not_hold_an_acknowledgement_up() {
+    row(
+        "lists A and B; 32 = 1000; log; A 0 SBH, B 1 SBH; both 1 SBH ack",
+        "1 14000080 14000080 9
+         2 00000080 00000080 1",
+        &[Cause13Fresh],
+    );
+    let mut channel = Channel::fresh(data(&[(32, 1000)]));
+    let far = channel.report(1, 0);
+    let first = channel.cycle(0, 0, false, far);
+    assert_eq!(first.causes.codes(), [10, 13]);
+    let near = channel.report(0, 0);
+    let second = channel.cycle(0, 0, true, near);
+    assert_eq!(second.causes.codes(), [13]);
+    assert_eq!((first.word, second.word), (0x1400_0080, 0x0000_0080));
+}
+
+#[test]
+fn form_0_beyond_the_whole_numbers_is_out_of_range() {
+    row(
+        "list A; 0 = 134_217_728; list B",
+        "refused 4 1 A",
+        &[WholeBeyondIs3],
+    );
+    row(
+        "list A; 0 = -134_217_728; list B",
+        "refused 4 1 A",
+        &[WholeBeyondIs3],
+    );
+    row(
+        "list A; 0 = 0x80000000; list B",
+        "refused 4 1 A",
+        &[WholeBeyondIs3],
+    );
+    row(
+        "list A; 0 = binary64 134_217_728; list B",
+        "refused 3 1 A",
+        &[FloatLimitOneMore],
+    );
+    row(
+        "list A; 0 = binary64 134_217_727; list B",
+        "refused 4 1 A",
+        &[FloatLimitOneLess],
+    );
+}
+
+#[test]
+fn the_delay_stays_over_an_unusable_cycle_and_goes_on() {
+    row(
+        "lists A and B; 1 = 1; 27 = 2; log; both 0 off; both 0 SG1; both 0 bit 2; both 0 SG1 times 2",
+        "1 00000080 00000080 1
+         2 00000080 00000080 1
+         3 05000084 05000084 a
+         4 05000084 05000084 a
+         5 05000085 05000085 a",
+        &[UnusableDelayFalls, UnusableDelayEnds],
+    );
+}
+
+#[test]
+fn reports_in_a_log_go_by_both_ks_from_before_the_cycle() {
+    row(
+        "lists A and B; log; both 0 SBH",
+        "1 00000080 00000080 1",
+        &[BSeesNewK],
+    );
+}

@@ -322,14 +322,18 @@ impl Side {
     }
 }
 
-/// `5 step 100 SG2 override 7`
-fn side(tokens: &mut Tokens) -> Result<Side, String> {
-    let position = integer(
+fn position(tokens: &mut Tokens) -> Result<i64, String> {
+    integer(
         next(tokens, "a position")?,
         -1 << 27,
         (1 << 27) - 1,
         "a position of 28 bits",
-    )?;
+    )
+}
+
+/// `5 step 100 SG2 override 7`
+fn side(tokens: &mut Tokens) -> Result<Side, String> {
+    let position = position(tokens)?;
     let step = match tokens.next_if_eq(&"step") {
         Some(_) => integer(next(tokens, "a step")?, -1 << 28, 1 << 28, "a step")?,
         None => 0,
@@ -382,15 +386,7 @@ fn single_word(first: &str, tokens: &mut Tokens) -> Result<u32, String> {
             Ok(words::datum(number as usize, form as u32))
         }
         "piece" => Ok(words::piece(bits(tokens, 16)?)),
-        "position" => {
-            let position = integer(
-                next(tokens, "a position")?,
-                -1 << 27,
-                (1 << 27) - 1,
-                "a position of 28 bits",
-            )?;
-            Ok(words::position(position as i32))
-        }
+        "position" => Ok(words::position(position(tokens)? as i32)),
         "lower" => Ok(words::lower(bits(tokens, 16)?)),
         "upper" => Ok(words::upper(bits(tokens, 16)? << 16)),
         "end" => Ok(words::end(tokens.next_if_eq(&"ack").is_some())),

@@ -19,6 +19,12 @@ pub const END: u32 = 7;
 /// "Kind 15: remark, 28 free bits."
 pub const REMARK: u32 = 15;
 
+/// "words most significant byte first": the whole words of some bytes.
+pub fn of_bytes(bytes: &[u8]) -> Vec<u32> {
+    let (words, _) = bytes.as_chunks();
+    words.iter().copied().map(u32::from_be_bytes).collect()
+}
+
 /// "the top 4 bits are the kind"
 #[inline]
 pub fn kind(word: u32) -> u32 {

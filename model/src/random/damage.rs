@@ -7,12 +7,13 @@ use crate::words;
 /// The bytes of a kit with one damage, or now and then with more.
 pub fn damage(random: &mut Xorshift, mut parts: Parts) -> Vec<u8> {
     for _ in 0..random.pick(&[1, 1, 1, 1, 2, 3]) {
-        match random.below(20) {
+        match random.below(22) {
             0 => damage_head(random, &mut parts),
             1..=9 => damage_datum(random, &mut parts),
             10 | 11 => cross_se(random, &mut parts),
             12..=16 => damage_log(random, &mut parts),
-            17 => resize(random, &mut parts),
+            17 | 18 => resize(random, &mut parts),
+            19 => return cut(random, &parts),
             _ => return damage_bytes(random, parts.bytes()),
         }
     }
@@ -298,6 +299,22 @@ fn resize(random: &mut Xorshift, parts: &mut Parts) {
         missing % 4
     };
     parts.tail = (0..surplus).map(|_| random.next() as u8).collect();
+}
+
+/// A kit that has no word, or ends just behind a head or a list.
+fn cut(random: &mut Xorshift, parts: &Parts) -> Vec<u8> {
+    let words = |list: &[Vec<u32>]| list.iter().map(Vec::len).sum::<usize>();
+    let lengths = [
+        0,
+        parts.head_a.len(),
+        words(&parts.list_a),
+        parts.head_b.len(),
+        words(&parts.list_b),
+    ];
+    let kept: usize = lengths.iter().take(1 + random.below(lengths.len())).sum();
+    let mut bytes = parts.bytes();
+    bytes.truncate(4 * kept);
+    bytes
 }
 
 /// Bytes turned, cut off or put in.

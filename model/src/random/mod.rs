@@ -3,6 +3,7 @@
 
 mod damage;
 mod drive;
+mod layers;
 mod reached;
 
 pub use reached::Reached;

@@ -1,119 +1,208 @@
 //! What random kits reach, counted.
 
+use super::layers::Layer;
 use crate::channel::{Channel, Cycle};
 use crate::log::{self, Side};
 use crate::machine_data::number;
 use crate::selection::Selection;
 use crate::stop::Rank;
-use crate::{list, listing};
+use crate::{list, listing, words};
 use std::fmt;
 
-/// What happened in a channel's cycle: the name and the sentence's key words.
-const EVENTS: [&str; 40] = [
-    "nothing effective",
-    "SG1 effective",
-    "SG2 effective",
-    "SG3 effective",
-    "SG4 effective",
-    "SBH effective",
-    "a lower selection sets the count",
-    "the count goes on",
-    "the count binds the lower selection",
-    "a selection no stricter ends the count",
-    "a lowering binds at once, delay 0",
-    "an override below 100 is effective",
-    "E entered",
-    "D entered",
-    "C entered",
-    "B entered",
-    "A entered",
-    "a stronger stop is entered over a weaker",
-    "E held",
-    "D held",
-    "C held",
-    "held in the entry cycle, time 0",
-    "B becomes A by its time",
-    "B becomes A by the shutdown speed",
-    "F set",
-    "F counts",
-    "F leads to cause 13",
-    "a cycle clears",
-    "clears with cause 13 alone",
-    "an acknowledgement is held up by a fresh cause",
-    "inputs differ, still allowed",
-    "unusable, the other usable",
-    "unusable, both",
-    "unusable while held",
-    "unusable while a lower selection waits",
-    "unusable while F counts",
-    "a cam signal rises",
-    "a cam signal falls",
-    "n<nx shows 1",
-    "k follows 50 by 0",
-];
+/// Things that are counted, each with its name.
+macro_rules! named {
+    ($(#[$doc:meta])* $table:ident { $($thing:ident: $name:literal,)* }) => {
+        $(#[$doc])*
+        #[derive(Clone, Copy, Debug, PartialEq, Eq)]
+        pub enum $table {
+            $($thing,)*
+        }
+
+        impl $table {
+            pub const NAMES: &'static [&'static str] = &[$($name,)*];
+        }
+    };
+}
+pub(super) use named;
+
+named! {
+    /// What happened in a channel's cycle.
+    Event {
+        NothingEffective: "nothing effective",
+        Sg1Effective: "SG1 effective",
+        Sg2Effective: "SG2 effective",
+        Sg3Effective: "SG3 effective",
+        Sg4Effective: "SG4 effective",
+        SbhEffective: "SBH effective",
+        CountSet: "a lower selection sets the count",
+        CountGoesOn: "the count goes on",
+        CountBinds: "the count binds the lower selection",
+        CountEnds: "a selection no stricter ends the count",
+        DelayZero: "a lowering binds at once, delay 0",
+        OverrideEffective: "an override below 100 is effective",
+        EEntered: "E entered",
+        DEntered: "D entered",
+        CEntered: "C entered",
+        BEntered: "B entered",
+        AEntered: "A entered",
+        StrongerEntered: "a stronger stop is entered over a weaker",
+        EHeld: "E held",
+        DHeld: "D held",
+        CHeld: "C held",
+        HeldOnEntry: "held in the entry cycle, time 0",
+        BToAByTime: "B becomes A by its time",
+        BToABySpeed: "B becomes A by the shutdown speed",
+        FSet: "F set",
+        FCounts: "F counts",
+        FToCause13: "F leads to cause 13",
+        Clears: "a cycle clears",
+        ClearsWithCause13: "clears with cause 13 alone",
+        HeldUp: "an acknowledgement is held up by a fresh cause",
+        InputsDiffer: "inputs differ, still allowed",
+        Unusable: "unusable, the other usable",
+        UnusableBoth: "unusable, both",
+        UnusableHeld: "unusable while held",
+        UnusableWaiting: "unusable while a lower selection waits",
+        UnusableF: "unusable while F counts",
+        CamRises: "a cam signal rises",
+        CamFalls: "a cam signal falls",
+        NxShows: "n<nx shows 1",
+        KWraps: "k follows 50 by 0",
+    }
+}
+
+named! {
+    /// What an accepted kit has.
+    Kit {
+        Binary32: "with a binary32",
+        Binary64: "with a binary64",
+        MinusZero: "with minus zero",
+        ListsDiffer: "with unlike lists",
+        Remarks: "with remarks",
+        EmptyLog: "with an empty log",
+        RemarksOnly: "with a log of remarks only",
+        LongLog: "of 1,000 cycles or more",
+        Largest: "of 65,536 bytes",
+    }
+}
 
 /// Counts over many kits.
-#[derive(Clone, Debug, Default)]
+#[derive(Clone, Debug)]
 pub struct Reached {
     kits: u64,
     accepted: u64,
     cycles: u64,
+    longest_log: u64,
     /// Refusals by part (A, B, L) and number.
     refused: [[u64; 8]; 3],
+    layers: Vec<u64>,
+    accepted_kits: Vec<u64>,
     /// Channel words by rank.
     ranks: [u64; 6],
     /// Device words by rank.
     device_ranks: [u64; 8],
+    /// Channel words that show a cam signal, SN1+ first.
+    cams: [u64; 8],
     causes: [u64; 14],
     events: Vec<u64>,
+}
+
+impl Default for Reached {
+    fn default() -> Reached {
+        Reached::new()
+    }
 }
 
 impl Reached {
     /// Nothing reached yet.
     pub fn new() -> Reached {
         Reached {
-            events: vec![0; EVENTS.len()],
-            ..Reached::default()
+            kits: 0,
+            accepted: 0,
+            cycles: 0,
+            longest_log: 0,
+            refused: [[0; 8]; 3],
+            layers: vec![0; Layer::NAMES.len()],
+            accepted_kits: vec![0; Kit::NAMES.len()],
+            ranks: [0; 6],
+            device_ranks: [0; 8],
+            cams: [0; 8],
+            causes: [0; 14],
+            events: vec![0; Event::NAMES.len()],
         }
+    }
+
+    /// Counts what other kits reached as well.
+    pub fn add(&mut self, other: &Reached) {
+        self.kits += other.kits;
+        self.accepted += other.accepted;
+        self.cycles += other.cycles;
+        self.longest_log = self.longest_log.max(other.longest_log);
+        add_each(
+            self.refused.as_flattened_mut(),
+            other.refused.as_flattened(),
+        );
+        add_each(&mut self.layers, &other.layers);
+        add_each(&mut self.accepted_kits, &other.accepted_kits);
+        add_each(&mut self.ranks, &other.ranks);
+        add_each(&mut self.device_ranks, &other.device_ranks);
+        add_each(&mut self.cams, &other.cams);
+        add_each(&mut self.causes, &other.causes);
+        add_each(&mut self.events, &other.events);
     }
 
     /// Counts what a kit reaches.
     pub fn count(&mut self, kit: &[u8]) {
         self.kits += 1;
-        let output = match listing::outputs(kit) {
-            Ok(output) => output,
+        let words = words::of_bytes(kit);
+        match listing::outputs(kit) {
+            Ok(output) => self.accepted(kit, &words, &output),
             Err(refused) => {
                 let number = refused.refusal.number.min(7) as usize;
                 self.refused[refused.part as usize][number] += 1;
-                return;
+                self.layers[Layer::of(kit, &words, refused) as usize] += 1;
             }
-        };
-        self.accepted += 1;
-        for three in output.chunks_exact(3) {
-            self.cycles += 1;
-            self.device_ranks[(three[2] >> 1 & 7) as usize] += 1;
         }
-        self.run(kit);
     }
 
     /// Runs an accepted kit again, looking at what the channels keep.
-    fn run(&mut self, kit: &[u8]) {
-        let words: Vec<u32> = kit
-            .chunks_exact(4)
-            .map(|bytes| {
-                bytes
-                    .iter()
-                    .fold(0, |word, &byte| word << 8 | u32::from(byte))
-            })
-            .collect();
-        let Ok((data_a, behind_a)) = list::read(&words) else {
+    fn accepted(&mut self, kit: &[u8], words: &[u32], output: &[u32]) {
+        self.accepted += 1;
+        let cycles = output.len() as u64 / 3;
+        self.cycles += cycles;
+        self.longest_log = self.longest_log.max(cycles);
+        for three in output.chunks_exact(3) {
+            self.device_ranks[(three[2] >> 1 & 7) as usize] += 1;
+        }
+        let Ok((data_a, behind_a)) = list::read(words) else {
             return;
         };
         let Ok((data_b, behind_b)) = list::read(&words[behind_a..]) else {
             return;
         };
-        let (mut a, mut b) = (Channel::fresh(data_a), Channel::fresh(data_b));
-        for record in log::records(&words[behind_a + behind_b..]) {
+        let (lists, log) = words.split_at(behind_a + behind_b);
+        self.lists(lists);
+        self.kit(Kit::ListsDiffer, data_a != data_b);
+        self.kit(Kit::Remarks, log.len() as u64 > 7 * cycles);
+        self.kit(Kit::EmptyLog, log.is_empty());
+        self.kit(Kit::RemarksOnly, cycles == 0 && !log.is_empty());
+        self.kit(Kit::LongLog, cycles >= 1_000);
+        self.kit(Kit::Largest, kit.len() == listing::LARGEST);
+        self.run(Channel::fresh(data_a), Channel::fresh(data_b), log);
+    }
+
+    /// The forms in which the data of both lists arrive.
+    fn lists(&mut self, lists: &[u32]) {
+        let single = |word: &u32| words::kind(*word) == words::DATUM && word & 3 == 1;
+        let double = |word: &u32| words::kind(*word) == words::DATUM && word & 3 == 2;
+        let minus_zero = |two: &[u32]| single(&two[0]) && two[1] == words::piece(0x8000);
+        self.kit(Kit::Binary32, lists.iter().any(single));
+        self.kit(Kit::Binary64, lists.iter().any(double));
+        self.kit(Kit::MinusZero, lists.windows(2).any(minus_zero));
+    }
+
+    fn run(&mut self, mut a: Channel, mut b: Channel, log: &[u32]) {
+        for record in log::records(log) {
             let (before_a, before_b) = (a, b);
             let from_a = a.report(record.a.position, record.a.inputs);
             let from_b = b.report(record.b.position, record.b.inputs);
@@ -161,7 +250,10 @@ impl Reached {
         for &code in cycle.causes.codes() {
             self.causes[usize::from(code).min(13)] += 1;
         }
-        self.event(39, before.k() == 50);
+        for (bit, cam) in (8..).zip(&mut self.cams) {
+            *cam += u64::from(cycle.word >> bit & 1);
+        }
+        self.event(Event::KWraps, before.k() == 50);
         if cycle.causes.stands(1) {
             self.unusable(before, other_unusable);
             return;
@@ -170,57 +262,68 @@ impl Reached {
         self.stop(before, after, cycle, side);
         self.f(before, after, cycle, acknowledged);
         let (was, is) = (before.cams(), after.cams());
-        self.event(36, is & !was != 0);
-        self.event(37, was & !is != 0);
-        self.event(38, cycle.word >> 21 & 1 == 1);
+        self.event(Event::CamRises, is & !was != 0);
+        self.event(Event::CamFalls, was & !is != 0);
+        self.event(Event::NxShows, cycle.word >> 21 & 1 == 1);
     }
 
-    fn event(&mut self, event: usize, happened: bool) {
-        self.events[event] += u64::from(happened);
+    fn event(&mut self, event: Event, happened: bool) {
+        self.events[event as usize] += u64::from(happened);
+    }
+
+    fn kit(&mut self, kit: Kit, has: bool) {
+        self.accepted_kits[kit as usize] += u64::from(has);
     }
 
     fn unusable(&mut self, before: &Channel, other_unusable: bool) {
-        self.event(31, !other_unusable);
-        self.event(32, other_unusable);
-        self.event(33, before.stop().held.is_some());
-        self.event(34, before.selections().count > 0);
-        self.event(35, before.f().on && before.f().count > 0);
+        self.event(Event::Unusable, !other_unusable);
+        self.event(Event::UnusableBoth, other_unusable);
+        self.event(Event::UnusableHeld, before.stop().held.is_some());
+        self.event(Event::UnusableWaiting, before.selections().count > 0);
+        self.event(Event::UnusableF, before.f().on && before.f().count > 0);
     }
 
     fn selection(&mut self, before: &Channel, after: &Channel) {
         let (was, is) = (before.selections(), after.selections());
         match is.effective {
-            Selection::Nothing => self.event(0, true),
+            Selection::Nothing => self.event(Event::NothingEffective, true),
             Selection::Sg {
                 sg,
                 override_number,
             } => {
-                self.event(1 + usize::from(sg), true);
+                self.event(EFFECTIVE[usize::from(sg & 3)], true);
                 let percent = Selection::percent(crate::Paper, after.data(), sg, override_number);
-                self.event(11, percent < 100);
+                self.event(Event::OverrideEffective, percent < 100);
             }
-            Selection::Sbh => self.event(5, true),
+            Selection::Sbh => self.event(Event::SbhEffective, true),
         }
         let bound = is
             .effective
             .stricter(crate::Paper, after.data(), was.effective);
-        self.event(6, was.count == 0 && is.count > 0);
-        self.event(7, was.count > 0 && is.count > 0);
-        self.event(8, was.count > 0 && is.count == 0 && bound);
-        self.event(9, was.count > 0 && is.count == 0 && !bound);
-        self.event(10, was.any_yet && was.count == 0 && is.count == 0 && bound);
+        self.event(Event::CountSet, was.count == 0 && is.count > 0);
+        self.event(Event::CountGoesOn, was.count > 0 && is.count > 0);
+        self.event(Event::CountBinds, was.count > 0 && is.count == 0 && bound);
+        self.event(Event::CountEnds, was.count > 0 && is.count == 0 && !bound);
+        self.event(
+            Event::DelayZero,
+            was.any_yet && was.count == 0 && is.count == 0 && bound,
+        );
     }
 
     fn stop(&mut self, before: &Channel, after: &Channel, cycle: &Cycle, side: Side) {
         let (was, is) = (before.stop(), after.stop());
         let entered = cycle.causes.strongest();
         if is.rank > was.rank && entered > was.rank {
-            self.event(11 + entered.number() as usize, true);
-            self.event(17, was.rank != Rank::None);
-            self.event(21, is.held.is_some());
+            self.event(ENTERED[entered.number() as usize - 1], true);
+            self.event(Event::StrongerEntered, was.rank != Rank::None);
+            self.event(Event::HeldOnEntry, is.held.is_some());
         }
         if is.held.is_some() && (was.held.is_none() || is.rank > was.rank) {
-            self.event(17 + is.rank.number() as usize, is.rank < Rank::B);
+            match is.rank {
+                Rank::E => self.event(Event::EHeld, true),
+                Rank::D => self.event(Event::DHeld, true),
+                _ => self.event(Event::CHeld, true),
+            }
         }
         if is.rank == Rank::A && was.rank.max(entered) == Rank::B {
             let time = after.data().get(number::TIME_B);
@@ -233,33 +336,36 @@ impl Reached {
                 .previous()
                 .map_or(0, |previous| i64::from(side.position) - i64::from(previous));
             let slow = d.abs() * 60 < after.data().times_t(after.data().get(number::SHUTDOWN));
-            self.event(22, over);
-            self.event(23, slow && !over);
+            self.event(Event::BToAByTime, over);
+            self.event(Event::BToABySpeed, slow && !over);
         }
     }
 
     fn f(&mut self, before: &Channel, after: &Channel, cycle: &Cycle, acknowledged: bool) {
         let causes = &cycle.causes;
         let differs = causes.stands(10) || causes.stands(11) || causes.stands(12);
-        self.event(24, !before.f().on && differs);
-        self.event(25, before.f().on && after.f().count > 0);
-        self.event(26, causes.stands(13));
+        self.event(Event::FSet, !before.f().on && differs);
+        self.event(Event::FCounts, before.f().on && after.f().count > 0);
+        self.event(Event::FToCause13, causes.stands(13));
         self.event(
-            27,
+            Event::Clears,
             acknowledged && !causes.any_fresh() && before.stop().rank != Rank::None,
         );
-        self.event(28, acknowledged && !causes.any_fresh() && causes.stands(13));
-        self.event(29, acknowledged && causes.any_fresh());
-        self.event(30, after.run() > 0 && !causes.stands(11));
+        self.event(
+            Event::ClearsWithCause13,
+            acknowledged && !causes.any_fresh() && causes.stands(13),
+        );
+        self.event(Event::HeldUp, acknowledged && causes.any_fresh());
+        self.event(Event::InputsDiffer, after.run() > 0 && !causes.stands(11));
     }
 
     /// How often the scarcest of all was reached, and its name.
     pub fn scarcest(&self) -> (u64, String) {
-        let mut counts: Vec<(u64, String)> = self.named();
-        counts.sort();
-        counts.into_iter().next().unwrap_or((0, String::new()))
+        let scarcest = self.named().into_iter().min();
+        scarcest.unwrap_or((0, String::new()))
     }
 
+    /// Everything that kits are to reach, with its count.
     fn named(&self) -> Vec<(u64, String)> {
         let mut counts = Vec::new();
         for (part, letter) in ["A", "B", "L"].into_iter().enumerate() {
@@ -271,17 +377,49 @@ impl Reached {
                 ));
             }
         }
-        for (rank, name) in ["none", "E", "D", "C", "B", "A"].into_iter().enumerate() {
-            counts.push((self.ranks[rank], format!("channel rank {name}")));
-            counts.push((self.device_ranks[rank], format!("device rank {name}")));
-        }
-        for code in 1..=13 {
-            counts.push((self.causes[code], format!("cause {code}")));
-        }
-        for (event, name) in EVENTS.iter().enumerate() {
-            counts.push((self.events[event], (*name).to_owned()));
-        }
+        let mut table = |group: &str, of: &[u64], names: &[&str]| {
+            let named = of.iter().zip(names);
+            counts.extend(named.map(|(&count, name)| (count, format!("{group}{name}"))));
+        };
+        table("refused ", &self.layers, Layer::NAMES);
+        table("accepted ", &self.accepted_kits, Kit::NAMES);
+        table("channel rank ", &self.ranks, &RANKS);
+        table("device rank ", &self.device_ranks[..6], &RANKS);
+        table("shown: ", &self.cams, &CAMS);
+        table("cause ", &self.causes[1..], &CODES);
+        table("", &self.events, Event::NAMES);
         counts
+    }
+}
+
+const RANKS: [&str; 6] = ["none", "E", "D", "C", "B", "A"];
+const CAMS: [&str; 8] = [
+    "SN1+", "SN1-", "SN2+", "SN2-", "SN3+", "SN3-", "SN4+", "SN4-",
+];
+const CODES: [&str; 13] = [
+    "1", "2", "3", "4", "5", "6", "7", "8", "9", "10", "11", "12", "13",
+];
+
+/// The entry of a stop, by its rank's number less one.
+const ENTERED: [Event; 5] = [
+    Event::EEntered,
+    Event::DEntered,
+    Event::CEntered,
+    Event::BEntered,
+    Event::AEntered,
+];
+
+/// An SG effective, by its number less one.
+const EFFECTIVE: [Event; 4] = [
+    Event::Sg1Effective,
+    Event::Sg2Effective,
+    Event::Sg3Effective,
+    Event::Sg4Effective,
+];
+
+fn add_each(counts: &mut [u64], others: &[u64]) {
+    for (count, other) in counts.iter_mut().zip(others) {
+        *count += other;
     }
 }
 
@@ -290,6 +428,7 @@ impl fmt::Display for Reached {
         writeln!(f, "{:>10} kits", self.kits)?;
         writeln!(f, "{:>10} accepted", self.accepted)?;
         writeln!(f, "{:>10} cycles", self.cycles)?;
+        writeln!(f, "{:>10} cycles in the longest log", self.longest_log)?;
         for (count, name) in self.named() {
             writeln!(f, "{count:>10} {name}")?;
         }

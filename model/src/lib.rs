@@ -39,6 +39,10 @@ pub mod kit;
 // Kits by chance.
 pub mod random;
 
+// The proved monitor, to compare with.
+#[cfg(feature = "proved")]
+pub mod proved;
+
 pub use channel::{Channel, Cycle, Report};
 pub use deviation::{Deviant, Deviation, Paper, Reading};
 pub use list::Refusal;

@@ -63,18 +63,32 @@ pub fn outputs(kit: &[u8]) -> Result<Vec<u32>, Refused> {
 /// [`outputs`] by any reading.
 pub fn outputs_as<R: Reading>(r: R, kit: &[u8]) -> Result<Vec<u32>, Refused> {
     let words = words(r, kit)?;
-    let (mut a, mut b, log) = parts(r, &words)?;
-    paper!(r, (), KitSizeAfterLists => size(Paper, kit)?);
-    let mut output = vec![0; 3 * (log.len() / 7)];
-    let cycles = log::run_as(r, &mut a, &mut b, log, &mut output).map_err(|mut refusal| {
+    paper!(r, (), KitSizeAfterLists => {
+        parts(r, &words)?;
+        size(Paper, kit)?;
+    });
+    let mut output = vec![0; 3 * (words.len() / 7)];
+    let cycles = run_as(r, &words, &mut output)?;
+    output.truncate(3 * cycles);
+    Ok(output)
+}
+
+/// A kit's words: both lists read and the log run, 3 words a cycle from the output's front on.
+/// The number of cycles.
+pub fn run(words: &[u32], output: &mut [u32]) -> Result<usize, Refused> {
+    run_as(Paper, words, output)
+}
+
+/// [`run`] by any reading.
+fn run_as<R: Reading>(r: R, words: &[u32], output: &mut [u32]) -> Result<usize, Refused> {
+    let (mut a, mut b, log) = parts(r, words)?;
+    log::run_as(r, &mut a, &mut b, log, output).map_err(|mut refusal| {
         paper!(r, (), PlacesOfLogFromKit => refusal.place += words.len() - log.len());
         Refused {
             refusal,
             part: Part::L,
         }
-    })?;
-    output.truncate(3 * cycles);
-    Ok(output)
+    })
 }
 
 /// "at most 65,536 bytes in whole words, else number 6, place 0, L"

@@ -1,0 +1,23 @@
+//! With the feature `proved`, links the archive `liblisting.a` of the proved monitor.
+
+use std::env;
+use std::path::Path;
+
+/// Names the folder that holds the archive.
+const FOLDER: &str = "MONITOR_ARCHIVE_DIR";
+
+fn main() {
+    println!("cargo:rerun-if-changed=build.rs");
+    println!("cargo:rerun-if-env-changed={FOLDER}");
+    if env::var_os("CARGO_FEATURE_PROVED").is_none() {
+        return;
+    }
+    let folder = env::var(FOLDER).unwrap_or_else(|_| "../target/staticlib".to_owned());
+    // A folder that is not absolute counts from this one, whatever cargo is run from.
+    let package = env::var("CARGO_MANIFEST_DIR").unwrap_or_default();
+    let folder = Path::new(&package).join(folder);
+    let archive = folder.join("liblisting.a");
+    println!("cargo:rerun-if-changed={}", archive.display());
+    println!("cargo:rustc-link-search=native={}", folder.display());
+    println!("cargo:rustc-link-lib=static=listing");
+}

@@ -1,0 +1,296 @@
+//! `compare`: the proved monitor against the model, on random kits.
+
+use model::random::{self, Reached, Xorshift};
+use model::{listing, proved, words};
+use std::io::Write;
+use std::num::NonZero;
+use std::process::ExitCode;
+use std::{fmt, fs, thread};
+
+const USAGE: &str = "compare [KITS] [SEED]   the proved monitor against the model, on random kits";
+
+const KITS: u64 = 100_000;
+const SEED: u64 = 20_000_000;
+
+/// So many kits must reach everything.
+const ENOUGH: u64 = 100_000;
+
+/// What a buffer holds before it is lent.
+const MARK: u8 = 0xa5;
+const MARK_WORD: u32 = 0xa5a5_a5a5;
+
+fn main() -> ExitCode {
+    let arguments: Vec<_> = std::env::args_os().skip(1).collect();
+    let number = |at: usize, default| match arguments.get(at) {
+        None => Some(default),
+        Some(argument) => argument.to_str()?.replace('_', "").parse().ok(),
+    };
+    let answer = match (number(0, KITS), number(1, SEED), arguments.len()) {
+        (Some(kits), Some(seed), ..=2) => report(kits, compare(kits, seed)),
+        _ => Err(USAGE.to_owned()),
+    };
+    let (Ok(text) | Err(text)) = &answer;
+    // A reader that has gone away does not change the answer.
+    let _ = writeln!(std::io::stdout(), "{text}");
+    ExitCode::from(u8::from(answer.is_err()))
+}
+
+/// What a comparison came to, in words; an error where something differs or was never tried.
+fn report(kits: u64, compared: Compared) -> Result<String, String> {
+    if let Some(difference) = compared.difference {
+        return Err(format!("{difference}\n{}", difference.keep()));
+    }
+    let tally = compared.tally;
+    match tally.scarcest() {
+        (0, name) if kits >= ENOUGH => Err(format!("{tally}never reached: {name}")),
+        _ => Ok(format!("{tally}0 differences")),
+    }
+}
+
+/// What the comparison over some seeds came to.
+#[derive(Default)]
+struct Compared {
+    tally: Tally,
+    /// The first one.
+    difference: Option<Difference>,
+}
+
+/// The comparison over so many seeds, in equal shares: the same for any number of threads.
+fn compare(kits: u64, seed: u64) -> Compared {
+    let threads = thread::available_parallelism().map_or(1, NonZero::get) as u64;
+    let start = |share: u64| kits / threads * share + share.min(kits % threads);
+    let shares = (0..threads).map(|share| start(share)..start(share + 1));
+    thread::scope(|scope| {
+        let running: Vec<_> = shares
+            .map(|share| scope.spawn(move || compare_share(share.map(|n| seed.wrapping_add(n)))))
+            .collect();
+        let mut all = Compared::default();
+        for share in running {
+            match share.join() {
+                Ok(share) => all.add(share),
+                Err(panic) => std::panic::resume_unwind(panic),
+            }
+        }
+        all
+    })
+}
+
+/// The comparison over some seeds, up to the first difference.
+fn compare_share(seeds: impl Iterator<Item = u64>) -> Compared {
+    let mut compared = Compared::default();
+    for seed in seeds {
+        let kit = kit(seed);
+        compared.difference = compared.tally.compare(seed, &kit);
+        if compared.difference.is_some() {
+            break;
+        }
+    }
+    compared
+}
+
+impl Compared {
+    /// Adds the next share.
+    fn add(&mut self, next: Compared) {
+        self.tally.add(&next.tally);
+        self.difference = self.difference.take().or(next.difference);
+    }
+}
+
+/// The kit of a seed: one in sixteen is but random bytes.
+fn kit(seed: u64) -> Vec<u8> {
+    if seed.is_multiple_of(16) {
+        random::bytes(seed)
+    } else {
+        random::kit(seed)
+    }
+}
+
+/// What was compared.
+#[derive(Default)]
+struct Tally {
+    reached: Reached,
+    buffers: Rooms,
+    outputs: Rooms,
+}
+
+impl Tally {
+    fn add(&mut self, other: &Tally) {
+        self.reached.add(&other.reached);
+        self.buffers.add(&other.buffers);
+        self.outputs.add(&other.outputs);
+    }
+
+    /// What was reached least often.
+    fn scarcest(&self) -> (u64, String) {
+        let rooms = [
+            self.buffers.scarcest("buffer"),
+            self.outputs.scarcest("output"),
+        ];
+        rooms
+            .into_iter()
+            .fold(self.reached.scarcest(), |least, room| least.min(room))
+    }
+
+    /// Both functions of the proved monitor on one kit.
+    fn compare(&mut self, seed: u64, kit: &[u8]) -> Option<Difference> {
+        self.reached.count(kit);
+        let mut random = Xorshift::new(!seed);
+        let what = self
+            .compare_listing(&mut random, kit)
+            .or_else(|| self.compare_run(&mut random, kit))?;
+        Some(Difference {
+            seed,
+            kit: kit.to_vec(),
+            what,
+        })
+    }
+
+    fn compare_listing(&mut self, random: &mut Xorshift, kit: &[u8]) -> Option<String> {
+        let text = listing::list(kit).into_bytes();
+        let mut buffer = vec![MARK; self.buffers.pick(random, text.len())];
+        let length = proved::list_kit(kit, &mut buffer);
+        if length == text.len() && is_lent_right(&buffer, &text, MARK) {
+            return None;
+        }
+        let by_line = first_line(&text, &proved::text(kit));
+        Some(by_line.unwrap_or_else(|| lent("listing", buffer.len(), text.len(), length)))
+    }
+
+    fn compare_run(&mut self, random: &mut Xorshift, kit: &[u8]) -> Option<String> {
+        // The words alone do not say that a kit is too large or ends within a word.
+        if kit.len() > listing::LARGEST || !kit.len().is_multiple_of(4) {
+            return None;
+        }
+        let words = words::of_bytes(kit);
+        let answer = listing::outputs(kit).unwrap_or_default();
+        let mut output = vec![MARK_WORD; self.outputs.pick(random, answer.len())];
+        let cycles = proved::run_kit(&words, &mut output);
+        let fits = answer.len() <= output.len();
+        let expected = if fits { answer.len() / 3 } else { 0 };
+        if cycles == expected && is_lent_right(&output, &answer, MARK_WORD) {
+            return None;
+        }
+        Some(lent("log run", output.len(), answer.len(), cycles))
+    }
+}
+
+/// A difference that no line of the listing shows.
+fn lent(function: &str, room: usize, wanted: usize, answer: usize) -> String {
+    format!("{function}, room for {room}, {wanted} wanted\n  proved: {answer}, or what it left in the room")
+}
+
+/// Whether an answer stands at the front of a lent buffer that has room for it, and all else
+/// is as it was.
+fn is_lent_right<T: Copy + PartialEq>(buffer: &[T], answer: &[T], mark: T) -> bool {
+    let answer = if answer.len() <= buffer.len() {
+        answer
+    } else {
+        &[]
+    };
+    let behind = buffer.iter().skip(answer.len());
+    buffer.starts_with(answer) && behind.copied().all(|left| left == mark)
+}
+
+/// How much room the lent buffers had.
+#[derive(Default)]
+struct Rooms {
+    too_short: u64,
+    just_enough: u64,
+    to_spare: u64,
+}
+
+impl Rooms {
+    /// A buffer's length, for an answer of this length.
+    fn pick(&mut self, random: &mut Xorshift, wanted: usize) -> usize {
+        let room = match random.below(10) {
+            0 => wanted.saturating_sub(1),
+            1 => random.below(wanted),
+            2 | 3 => wanted,
+            _ => wanted + 1 + random.below(64),
+        };
+        match room.cmp(&wanted) {
+            std::cmp::Ordering::Less => self.too_short += 1,
+            std::cmp::Ordering::Equal => self.just_enough += 1,
+            std::cmp::Ordering::Greater => self.to_spare += 1,
+        }
+        room
+    }
+
+    fn add(&mut self, other: &Rooms) {
+        self.too_short += other.too_short;
+        self.just_enough += other.just_enough;
+        self.to_spare += other.to_spare;
+    }
+
+    fn named(&self, of: &str) -> [(u64, String); 3] {
+        [
+            (self.too_short, format!("{of} too short")),
+            (self.just_enough, format!("{of} just long enough")),
+            (self.to_spare, format!("{of} with room to spare")),
+        ]
+    }
+
+    fn scarcest(&self, of: &str) -> (u64, String) {
+        self.named(of).into_iter().min().unwrap_or_default()
+    }
+}
+
+impl fmt::Display for Tally {
+    fn fmt(&self, f: &mut fmt::Formatter) -> fmt::Result {
+        write!(f, "{}", self.reached)?;
+        let rooms = [self.buffers.named("buffer"), self.outputs.named("output")];
+        for (count, name) in rooms.iter().flatten() {
+            writeln!(f, "{count:>10} {name}")?;
+        }
+        Ok(())
+    }
+}
+
+/// A kit on which the two differ.
+struct Difference {
+    seed: u64,
+    kit: Vec<u8>,
+    what: String,
+}
+
+impl Difference {
+    /// Writes the kit to a file in the current folder, and says so.
+    fn keep(&self) -> String {
+        let file = format!("differs-{}.kit", self.seed);
+        match fs::write(&file, &self.kit) {
+            Ok(()) => format!("its kit: {file}"),
+            Err(error) => format!("its kit cannot be kept: {file}: {error}"),
+        }
+    }
+}
+
+impl fmt::Display for Difference {
+    fn fmt(&self, f: &mut fmt::Formatter) -> fmt::Result {
+        write!(f, "the kit of seed {} differs: {}", self.seed, self.what)
+    }
+}
+
+/// The first line in which two texts differ, if they do.
+fn first_line(model: &[u8], proved: &[u8]) -> Option<String> {
+    let mut of_model = model.split_inclusive(|&byte| byte == b'\n');
+    let mut of_proved = proved.split_inclusive(|&byte| byte == b'\n');
+    let mut line = 0;
+    loop {
+        line += 1;
+        match (of_model.next(), of_proved.next()) {
+            (None, None) => return None,
+            (model, proved) if model == proved => (),
+            (model, proved) => {
+                let shown = |line: Option<&[u8]>| {
+                    line.map_or("nothing".to_owned(), |line| {
+                        format!("{:?}", String::from_utf8_lossy(line))
+                    })
+                };
+                let (model, proved) = (shown(model), shown(proved));
+                return Some(format!(
+                    "line {line}\n  model:  {model}\n  proved: {proved}"
+                ));
+            }
+        }
+    }
+}

@@ -176,7 +176,9 @@ impl Tally {
 
 /// A difference that no line of the listing shows.
 fn lent(function: &str, room: usize, wanted: usize, answer: usize) -> String {
-    format!("{function}, room for {room}, {wanted} wanted\n  proved: {answer}, or what it left in the room")
+    format!(
+        "{function}: room for {room}, {wanted} wanted; the answer, {answer}, or the room is wrong"
+    )
 }
 
 /// Whether an answer stands at the front of a lent buffer that has room for it, and all else

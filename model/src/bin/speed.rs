@@ -1,1 +1,279 @@
-fn main() {}
+//! `speed`: what a cycle costs the proved monitor and the model, on the same kits.
+
+use model::{kit, listing, proved, random, words};
+use std::fmt;
+use std::hint::black_box;
+use std::io::Write;
+use std::process::ExitCode;
+use std::time::{Duration, Instant};
+
+const USAGE: &str = "speed [ROUNDS]   nanoseconds a cycle, the proved monitor and the model";
+
+const ROUNDS: usize = 101;
+
+/// Cycles of a log: where the cost is linear, a cycle costs the same at every length.
+const LENGTHS: [usize; 4] = [250, 500, 1000, 2000];
+
+/// A sample repeats its call for about so long, well above the clock's grain.
+const SAMPLE: Duration = Duration::from_micros(200);
+
+fn main() -> ExitCode {
+    let rounds = match std::env::args_os().nth(1) {
+        None => Some(ROUNDS),
+        Some(argument) => argument.to_str().and_then(|rounds| rounds.parse().ok()),
+    };
+    let answer = match rounds {
+        Some(rounds @ 1..) => tables(rounds),
+        _ => Err(USAGE.to_owned()),
+    };
+    let (Ok(text) | Err(text)) = &answer;
+    // A reader that has gone away does not change the answer.
+    let _ = writeln!(std::io::stdout(), "{}", text.trim_end());
+    ExitCode::from(u8::from(answer.is_err()))
+}
+
+/// The tables, or why there are none.
+fn tables(rounds: usize) -> Result<String, String> {
+    let mut text = format!("Medians of {rounds} samples, in brackets the least.\n");
+    text += &head("Nanoseconds a cycle");
+    for (name, kit) in LOGS {
+        text += &rows_of_log(name, kit, rounds)?;
+    }
+    text += &head("Nanoseconds a list, no log");
+    for (name, lists) in LISTS {
+        let cost = cost(&assemble(lists)?, 0, rounds)?;
+        text += &row(name, divided(cost, 2));
+    }
+    Ok(text)
+}
+
+/// A log at each length, and what each further cycle costs, without the lists.
+fn rows_of_log(name: &str, kit: fn(usize) -> Kit, rounds: usize) -> Result<String, String> {
+    let mut rows = String::new();
+    let mut costs = Vec::new();
+    for cycles in LENGTHS {
+        let cost = cost(&kit(cycles)?, cycles, rounds)?;
+        rows += &row(&format!("{name}, {cycles} cycles"), divided(cost, cycles));
+        costs.push((cycles, cost));
+    }
+    if let [(short, of_short), .., (long, of_long)] = costs[..] {
+        let further = divided(less(of_long, of_short), long - short);
+        rows += &row(&format!("{name}, each further cycle"), further);
+    }
+    Ok(rows)
+}
+
+fn head(what: &str) -> String {
+    format!(
+        "\n| {what} | Log run, proved | Model | Ratio | Listing, proved | Model | Ratio |\n{}\n",
+        "|---|---:|---:|---:|---:|---:|---:|"
+    )
+}
+
+fn row(name: &str, [run, model_run, list, model_list]: Cost) -> String {
+    let run_ratio = run.median / model_run.median;
+    let list_ratio = list.median / model_list.median;
+    format!("| {name} | {run} | {model_run} | {run_ratio:.2} | {list} | {model_list} | {list_ratio:.2} |\n")
+}
+
+/// Nanoseconds of a call that was timed often.
+#[derive(Clone, Copy)]
+struct Time {
+    median: f64,
+    least: f64,
+}
+
+impl fmt::Display for Time {
+    fn fmt(&self, f: &mut fmt::Formatter) -> fmt::Result {
+        write!(f, "{:.1} ({:.1})", self.median, self.least)
+    }
+}
+
+/// The log run of the proved monitor and of the model, then the listing of both.
+type Cost = [Time; 4];
+
+fn divided(cost: Cost, by: usize) -> Cost {
+    cost.map(|time| Time {
+        median: time.median / by as f64,
+        least: time.least / by as f64,
+    })
+}
+
+fn less(cost: Cost, other: Cost) -> Cost {
+    std::array::from_fn(|of| Time {
+        median: cost[of].median - other[of].median,
+        least: cost[of].least - other[of].least,
+    })
+}
+
+/// What a kit of so many cycles costs.
+fn cost(kit: &[u8], cycles: usize, rounds: usize) -> Result<Cost, String> {
+    let words = words::of_bytes(kit);
+    let mut output = vec![0; 3 * cycles];
+    let mut text = vec![0; listing::LARGEST];
+    let mut model_output = output.clone();
+    let mut model_text = text.clone();
+    let cost = time(
+        rounds,
+        [
+            &mut || proved::run_kit(black_box(&words), black_box(&mut output)),
+            &mut || listing::run(black_box(&words), black_box(&mut model_output)).unwrap_or(0),
+            &mut || proved::list_kit(black_box(kit), black_box(&mut text)),
+            &mut || listing::list_into(black_box(kit), black_box(&mut model_text)).unwrap_or(0),
+        ],
+    );
+    let whole = listing::run(&words, &mut model_output) == Ok(cycles);
+    match whole && output == model_output && text == model_text {
+        true => Ok(cost),
+        false => Err(format!("the answers differ for a log of {cycles} cycles")),
+    }
+}
+
+/// The four calls timed in turn in every round, so that what else the machine does meets all.
+fn time(rounds: usize, mut calls: [&mut dyn FnMut() -> usize; 4]) -> Cost {
+    let repeats = calls.each_mut().map(|call| repeats(call));
+    let mut samples = [const { Vec::new() }; 4];
+    for _ in 0..rounds {
+        for ((call, repeats), samples) in calls.iter_mut().zip(repeats).zip(&mut samples) {
+            samples.push(sample(call, repeats));
+        }
+    }
+    samples.map(|mut samples| {
+        samples.sort_by(f64::total_cmp);
+        Time {
+            median: samples[samples.len() / 2],
+            least: samples[0],
+        }
+    })
+}
+
+/// How often a call is repeated in a sample.
+fn repeats(call: &mut dyn FnMut() -> usize) -> u32 {
+    sample(call, 3);
+    let once = sample(call, 10);
+    (SAMPLE.as_nanos() as f64 / once.max(1.0)).clamp(1.0, 1e6) as u32
+}
+
+/// Nanoseconds of one of so many calls.
+fn sample(call: &mut dyn FnMut() -> usize, repeats: u32) -> f64 {
+    let start = Instant::now();
+    for _ in 0..repeats {
+        black_box(call());
+    }
+    start.elapsed().as_nanos() as f64 / f64::from(repeats)
+}
+
+/// A kit's bytes, or why there are none.
+type Kit = Result<Vec<u8>, String>;
+
+/// A log's name, and its kit with so many cycles.
+type Log = (&'static str, fn(usize) -> Kit);
+
+const LOGS: [Log; 5] = [
+    ("quiet SG", |cycles| log(QUIET, cycles)),
+    ("stops, F and acknowledgements", |cycles| log(STOPS, cycles)),
+    ("unusable", |cycles| log(UNUSABLE, cycles)),
+    ("cams", |cycles| log(CAMS, cycles)),
+    ("by chance", |cycles| Ok(random::kit_of(CHANCE, cycles))),
+];
+
+/// A seed whose kit has every function on, and whose log comes to every rank.
+const CHANCE: u64 = 12_874;
+
+const LISTS: [(&str, &str); 2] = [
+    ("whole numbers", "lists A and B"),
+    (
+        "binary64",
+        "lists A and B
+          0..10 = binary64 1
+          11 = binary64 -100000000
+          12 = binary64 100000000
+          13 = binary64 -100000000
+          14 = binary64 100000000
+          15..50 = binary64 1",
+    ),
+];
+
+/// A kit's lists, and records to repeat.
+type Pattern = (&'static str, &'static [&'static str]);
+
+const QUIET: Pattern = (
+    "lists A and B
+      0 = 12
+      1 = 1
+      2 = 10
+      3 = 2000
+      7 = 3",
+    &["both 0 SG1", "both 200 SG1", "both 400 SG1", "both 200 SG1"],
+);
+
+const STOPS: Pattern = (
+    "lists A and B
+      0 = 12
+      1 = 31
+      2 = 10
+      3 = 2000
+      7 = 3
+      26 = 5
+      28 = 1
+      29..31 = 2
+      32 = 1
+      34 = 2",
+    &[
+        "both 0 SG1 no-stop",
+        // Over SG1: C, held, left: B, then A.
+        "both 401 SG1 no-stop",
+        "both 401 SG1 no-stop",
+        "both 401 SG1 no-stop",
+        "both 412 SG1 no-stop",
+        "both 412 SG1 no-stop",
+        "both 412 SG1 no-stop ack",
+        // Positions part: F, then B.
+        "A 412 SG1 no-stop, B 418 SG1 no-stop",
+        "both 412 SG1 no-stop",
+        "both 412 SG1 no-stop",
+        "both 412 SG1 no-stop",
+        "both 412 SG1 no-stop ack",
+        // Inputs differ for longer than allowed: F.
+        "A 412 SG1 no-stop, B 412 SG1 SE2 no-stop",
+        "A 412 SG1 no-stop, B 412 SG1 SE2 no-stop",
+        "both 412 SG1 no-stop ack",
+        // External stops: E, then D over it.
+        "both 412 SG1 stop-E",
+        "both 412 SG1 stop-D",
+        "both 412 SG1 no-stop ack",
+        // SBH, and back to SG1.
+        "both 212 SBH no-stop",
+        "both 12 SG1 no-stop ack",
+    ],
+);
+
+const UNUSABLE: Pattern = ("lists A and B", &["both 0 SG1 bit 5"]);
+
+const CAMS: Pattern = (
+    "lists A and B
+      0 = 12
+      1 = 5
+      3 = 1000000
+      16..19 = 100
+      20..23 = 250
+      24 = 10",
+    &[
+        "both 0 SG1",
+        "both 105 SG1",
+        "both 200 SG1",
+        "both 300 SG1",
+        "both 245 SG1",
+        "both 105 SG1",
+    ],
+);
+
+/// The kit of a pattern with so many records.
+fn log((lists, records): Pattern, cycles: usize) -> Kit {
+    let records: Vec<&str> = records.iter().copied().cycle().take(cycles).collect();
+    assemble(&format!("{lists}\nlog\n{}", records.join("\n")))
+}
+
+fn assemble(text: &str) -> Kit {
+    kit::assemble(text).map_err(|fault| fault.to_string())
+}

@@ -11,15 +11,13 @@ use crate::{words, Paper};
 const NO_STOP: u32 = 0xf << 18;
 
 /// A log of records and remarks for channels with these data.
-pub fn log(random: &mut Xorshift, data_a: &[i32; COUNT], data_b: &[i32; COUNT]) -> Vec<Vec<u32>> {
-    let cycles = match random.below(400) {
-        0 => random.between(1_000, 2_200),
-        1..=10 => 0,
-        11..=230 => random.between(2, 14),
-        231..=370 => random.between(10, 40),
-        371..=390 => random.between(50, 120),
-        _ => random.between(100, 400),
-    };
+pub fn log(
+    random: &mut Xorshift,
+    data_a: &[i32; COUNT],
+    data_b: &[i32; COUNT],
+    cycles: Option<usize>,
+) -> Vec<Vec<u32>> {
+    let cycles = cycles.unwrap_or_else(|| any_cycles(random));
     let remarks = random.pick(&[0, 0, 0, 10, 40]);
     let mut driver = Driver::new(random, data_a, data_b);
     let mut log = Vec::new();
@@ -29,6 +27,19 @@ pub fn log(random: &mut Xorshift, data_a: &[i32; COUNT], data_b: &[i32; COUNT]) 
     }
     push_remarks(random, remarks, &mut log);
     log
+}
+
+/// How many cycles a log has: mostly few, now and then as many as a kit can hold.
+fn any_cycles(random: &mut Xorshift) -> usize {
+    let cycles = match random.below(400) {
+        0 => random.between(1_000, 2_200),
+        1..=10 => 0,
+        11..=230 => random.between(2, 14),
+        231..=370 => random.between(10, 40),
+        371..=390 => random.between(50, 120),
+        _ => random.between(100, 400),
+    };
+    cycles as usize
 }
 
 fn push_remarks(random: &mut Xorshift, percent: usize, log: &mut Vec<Vec<u32>>) {

@@ -59,12 +59,17 @@ impl Xorshift {
 /// The structured kit of a seed: about two in three are accepted.
 pub fn kit(seed: u64) -> Vec<u8> {
     let mut random = Xorshift::new(seed);
-    let parts = parts(&mut random);
+    let parts = parts(&mut random, None);
     if random.percent(64) {
         parts.bytes()
     } else {
         damage::damage(&mut random, parts)
     }
+}
+
+/// The valid kit of a seed with a log of so many cycles: a shorter one is its front.
+pub fn kit_of(seed: u64, cycles: usize) -> Vec<u8> {
+    parts(&mut Xorshift::new(seed), Some(cycles)).bytes()
 }
 
 /// Random bytes: whole words or not, of any kinds or mostly of those of lists and logs.
@@ -108,17 +113,18 @@ impl Parts {
     }
 }
 
-/// A valid kit in its parts.
-fn parts(random: &mut Xorshift) -> Parts {
+/// A valid kit in its parts; its log of any number of cycles or of this.
+fn parts(random: &mut Xorshift, cycles: Option<usize>) -> Parts {
     let data_a = data(random);
     let data_b = other_data(random, &data_a);
-    let log = drive::log(random, &data_a, &data_b);
+    let list_a = list(random, &data_a);
+    let list_b = list(random, &data_b);
     Parts {
         head_a: vec![words::head()],
-        list_a: list(random, &data_a),
+        list_a,
         head_b: vec![words::head()],
-        list_b: list(random, &data_b),
-        log,
+        list_b,
+        log: drive::log(random, &data_a, &data_b, cycles),
         tail: Vec::new(),
     }
 }

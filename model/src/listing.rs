@@ -173,11 +173,11 @@ fn line<R: Reading>(r: R, index: usize, a: u32, b: u32, device: u32, text: &mut 
     paper!(r, decimal(cycle, text),
         CycleHexadecimal => hexadecimal(r, cycle as u32, 1, text));
     let (first, second) = paper!(r, (a, b), WordsOfBFirst => (b, a));
-    let digits = paper!(r, 8, ChannelWordsShort => 1);
-    space(r, text);
-    hexadecimal(r, first, digits, text);
-    space(r, text);
-    hexadecimal(r, second, digits, text);
+    for word in [first, second] {
+        space(r, text);
+        paper!(r, text.extend_from_slice(&digits(r, word)),
+            ChannelWordsShort => hexadecimal(r, word, 1, text));
+    }
     space(r, text);
     paper!(r, hexadecimal(r, device, 1, text),
         DeviceWordTwoDigits => hexadecimal(r, device, 2, text),
@@ -226,15 +226,19 @@ fn decimal(number: usize, text: &mut Vec<u8>) {
     text.extend_from_slice(&digits[front..]);
 }
 
-/// "channel words 8 digits, device word without leading zeros": at least so many digits.
+/// "channel words 8 digits"
 #[inline]
-fn hexadecimal<R: Reading>(r: R, word: u32, at_least: u32, text: &mut Vec<u8>) {
+fn digits<R: Reading>(r: R, word: u32) -> [u8; 8] {
     let figures = paper!(r, b"0123456789abcdef", UpperCase => b"0123456789ABCDEF");
-    let used = (32 - word.leading_zeros()).div_ceil(4);
-    let wanted = used.max(at_least).clamp(1, 8);
-    let digits: [u8; 8] =
-        std::array::from_fn(|digit| figures[(word >> (28 - 4 * digit) & 15) as usize]);
-    text.extend_from_slice(&digits[8 - wanted as usize..]);
+    std::array::from_fn(|digit| figures[(word >> (28 - 4 * digit) & 15) as usize])
+}
+
+/// "device word without leading zeros": at least so many digits.
+#[inline]
+fn hexadecimal<R: Reading>(r: R, word: u32, at_least: usize, text: &mut Vec<u8>) {
+    let leading = word.leading_zeros() as usize / 4;
+    let left_out = leading.min(8 - at_least.min(8));
+    text.extend_from_slice(&digits(r, word)[left_out..]);
 }
 
 /// "Fields stand one space apart"

@@ -7,13 +7,13 @@ use crate::words;
 /// The bytes of a kit with one damage, or now and then with more.
 pub fn damage(random: &mut Xorshift, mut parts: Parts) -> Vec<u8> {
     for _ in 0..random.pick(&[1, 1, 1, 1, 2, 3]) {
-        match random.below(22) {
+        match random.below(25) {
             0 => damage_head(random, &mut parts),
-            1..=9 => damage_datum(random, &mut parts),
-            10 | 11 => cross_se(random, &mut parts),
-            12..=16 => damage_log(random, &mut parts),
-            17 | 18 => resize(random, &mut parts),
-            19 => return cut(random, &parts),
+            1..=12 => damage_datum(random, &mut parts),
+            13 | 14 => cross_se(random, &mut parts),
+            15..=19 => damage_log(random, &mut parts),
+            20 | 21 => resize(random, &mut parts),
+            22 => return cut(random, &parts),
             _ => return damage_bytes(random, parts.bytes()),
         }
     }
@@ -80,7 +80,7 @@ fn damage_datum(random: &mut Xorshift, parts: &mut Parts) {
         return;
     };
     let (low, high) = range(number);
-    match random.below(20) {
+    match random.below(29) {
         0 => datum[0] ^= 1 << random.between(0, 31),
         1 => datum[0] ^= random.pick(&[1 << 2, 1 << 15, 1 << 16, 1 << 24, 1 << 27, 1 << 28]),
         2 => datum[0] = words::datum(number, random.below(4) as u32),
@@ -100,26 +100,30 @@ fn damage_datum(random: &mut Xorshift, parts: &mut Parts) {
             let place = random.below(datum.len() + 1);
             datum.insert(place, words::remark(random.next() as u32));
         }
-        10 | 11 => *datum = whole(number, random.pick(&[low - 1, high + 1])),
-        12 => *datum = whole(number, far(random)),
-        13 => *datum = binary32(number, (random.pick(&[low - 1, high + 1]) as f32).to_bits()),
-        14 => {
+        10..=15 => *datum = whole(number, random.pick(&[low - 1, high + 1])),
+        16 => *datum = whole(number, far(random)),
+        17 => *datum = binary32(number, (random.pick(&[low - 1, high + 1]) as f32).to_bits()),
+        18 => {
             *datum = binary64(
                 number,
                 f64::from(random.pick(&[low - 1, high + 1])).to_bits(),
             )
         }
-        15 => {
+        19..=21 => {
             *datum = binary32(number, odd_single(random, low));
             surplus(random, datum);
         }
-        16 | 17 => {
+        22..=25 => {
             *datum = binary64(number, odd_double(random, low));
             surplus(random, datum);
         }
-        18 => {
+        26 => {
             *datum = whole(number, low - 1);
             surplus(random, datum);
+        }
+        27 => {
+            let place = random.below(datum.len());
+            datum[place] = random.pick(&words::record((0, 0), (0, 0), false));
         }
         _ => {
             *datum = whole(number, high + 1);
@@ -275,6 +279,8 @@ fn damage_log(random: &mut Xorshift, parts: &mut Parts) {
 fn resize(random: &mut Xorshift, parts: &mut Parts) {
     let largest = crate::listing::LARGEST;
     let wanted = random.pick(&[
+        largest,
+        largest,
         largest,
         largest + 4,
         largest - 4,

@@ -18,7 +18,10 @@ pub fn log(
     cycles: Option<usize>,
 ) -> Vec<Vec<u32>> {
     let cycles = cycles.unwrap_or_else(|| any_cycles(random));
-    let remarks = random.pick(&[0, 0, 0, 10, 40]);
+    let remarks = match cycles {
+        0 => random.pick(&[0, 60]),
+        _ => random.pick(&[0, 0, 0, 10, 40]),
+    };
     let mut driver = Driver::new(random, data_a, data_b);
     let mut log = Vec::new();
     for _ in 0..cycles {

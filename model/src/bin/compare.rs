@@ -283,16 +283,19 @@ fn first_line(model: &[u8], proved: &[u8]) -> Option<String> {
             (None, None) => return None,
             (model, proved) if model == proved => (),
             (model, proved) => {
-                let shown = |line: Option<&[u8]>| {
-                    line.map_or("nothing".to_owned(), |line| {
-                        format!("{:?}", String::from_utf8_lossy(line))
-                    })
-                };
                 let (model, proved) = (shown(model), shown(proved));
                 return Some(format!(
                     "line {line}\n  model:  {model}\n  proved: {proved}"
                 ));
             }
         }
+    }
+}
+
+/// A line as it is shown: its front, in quotes.
+fn shown(line: Option<&[u8]>) -> String {
+    match line {
+        None => "nothing".to_owned(),
+        Some(line) => format!("{:?}", String::from_utf8_lossy(&line[..line.len().min(60)])),
     }
 }

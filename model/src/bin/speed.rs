@@ -9,7 +9,7 @@ use std::time::{Duration, Instant};
 
 const USAGE: &str = "speed [ROUNDS]   nanoseconds a cycle, the proved monitor and the model";
 
-const ROUNDS: usize = 101;
+const ROUNDS: usize = 301;
 
 /// Cycles of a log: where the cost is linear, a cycle costs the same at every length.
 const LENGTHS: [usize; 4] = [250, 500, 1000, 2000];

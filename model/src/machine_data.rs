@@ -135,6 +135,7 @@ pub fn lowest(number: usize) -> i32 {
 }
 
 /// The column "Range" of the machine data.
+#[inline]
 pub const fn range(number: usize) -> (i32, i32) {
     match number {
         0 => (1, 25),

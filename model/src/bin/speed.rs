@@ -41,23 +41,26 @@ fn tables(rounds: usize) -> Result<String, String> {
     }
     text += &head("Nanoseconds a list, no log");
     for (name, lists) in LISTS {
-        let cost = cost(&assemble(lists)?, 0, rounds)?;
-        text += &row(name, divided(cost, 2));
+        for cost in costs(vec![Bench::new(assemble(lists)?, 0)], rounds)? {
+            text += &row(name, divided(cost, 2));
+        }
     }
     Ok(text)
 }
 
 /// A log at each length, and what each further cycle costs, without the lists.
 fn rows_of_log(name: &str, kit: fn(usize) -> Kit, rounds: usize) -> Result<String, String> {
-    let mut rows = String::new();
-    let mut costs = Vec::new();
+    let mut kits = Vec::new();
     for cycles in LENGTHS {
-        let cost = cost(&kit(cycles)?, cycles, rounds)?;
-        rows += &row(&format!("{name}, {cycles} cycles"), divided(cost, cycles));
-        costs.push((cycles, cost));
+        kits.push(Bench::new(kit(cycles)?, cycles));
     }
-    if let [(short, of_short), .., (long, of_long)] = costs[..] {
-        let further = divided(less(of_long, of_short), long - short);
+    let costs = costs(kits, rounds)?;
+    let mut rows = String::new();
+    for (cycles, &cost) in LENGTHS.into_iter().zip(&costs) {
+        rows += &row(&format!("{name}, {cycles} cycles"), divided(cost, cycles));
+    }
+    if let ([short, .., long], [of_short, .., of_long]) = (LENGTHS, &costs[..]) {
+        let further = divided(less(*of_long, *of_short), long - short);
         rows += &row(&format!("{name}, each further cycle"), further);
     }
     Ok(rows)
@@ -83,6 +86,17 @@ struct Time {
     least: f64,
 }
 
+impl Time {
+    fn of(mut samples: Vec<f64>) -> Time {
+        samples.sort_by(f64::total_cmp);
+        let at = |place: usize| samples.get(place).copied().unwrap_or(f64::NAN);
+        Time {
+            median: at(samples.len() / 2),
+            least: at(0),
+        }
+    }
+}
+
 impl fmt::Display for Time {
     fn fmt(&self, f: &mut fmt::Formatter) -> fmt::Result {
         write!(f, "{:.1} ({:.1})", self.median, self.least)
@@ -106,61 +120,108 @@ fn less(cost: Cost, other: Cost) -> Cost {
     })
 }
 
-/// What a kit of so many cycles costs.
-fn cost(kit: &[u8], cycles: usize, rounds: usize) -> Result<Cost, String> {
-    let words = words::of_bytes(kit);
-    let mut output = vec![0; 3 * cycles];
-    let mut text = vec![0; listing::LARGEST];
-    let mut model_output = output.clone();
-    let mut model_text = text.clone();
-    let cost = time(
-        rounds,
-        [
-            &mut || proved::run_kit(black_box(&words), black_box(&mut output)),
-            &mut || listing::run(black_box(&words), black_box(&mut model_output)).unwrap_or(0),
-            &mut || proved::list_kit(black_box(kit), black_box(&mut text)),
-            &mut || listing::list_into(black_box(kit), black_box(&mut model_text)).unwrap_or(0),
-        ],
-    );
-    let whole = listing::run(&words, &mut model_output) == Ok(cycles);
-    match whole && output == model_output && text == model_text {
-        true => Ok(cost),
-        false => Err(format!("the answers differ for a log of {cycles} cycles")),
+/// What each kit costs. All take turns in every round, so that what else the machine does
+/// meets all alike.
+fn costs(mut kits: Vec<Bench>, rounds: usize) -> Result<Vec<Cost>, String> {
+    for kit in &mut kits {
+        kit.compare()?;
+        kit.repeats = CALLS.map(|call| kit.repeats_of(call));
     }
-}
-
-/// The four calls timed in turn in every round, so that what else the machine does meets all.
-fn time(rounds: usize, mut calls: [&mut dyn FnMut() -> usize; 4]) -> Cost {
-    let repeats = calls.each_mut().map(|call| repeats(call));
-    let mut samples = [const { Vec::new() }; 4];
     for _ in 0..rounds {
-        for ((call, repeats), samples) in calls.iter_mut().zip(repeats).zip(&mut samples) {
-            samples.push(sample(call, repeats));
+        for kit in &mut kits {
+            kit.round();
         }
     }
-    samples.map(|mut samples| {
-        samples.sort_by(f64::total_cmp);
-        Time {
-            median: samples[samples.len() / 2],
-            least: samples[0],
+    let costs = kits.into_iter().map(|kit| kit.samples.map(Time::of));
+    Ok(costs.collect())
+}
+
+/// The calls that are timed, in the order of [`Cost`].
+const CALLS: [Call; 4] = [Call::Run, Call::ModelRun, Call::List, Call::ModelList];
+
+#[derive(Clone, Copy)]
+enum Call {
+    Run,
+    ModelRun,
+    List,
+    ModelList,
+}
+
+/// A kit that is timed, with what it lends to the calls.
+struct Bench {
+    kit: Vec<u8>,
+    words: Vec<u32>,
+    cycles: usize,
+    output: Vec<u32>,
+    text: Vec<u8>,
+    repeats: [u32; 4],
+    samples: [Vec<f64>; 4],
+}
+
+impl Bench {
+    fn new(kit: Vec<u8>, cycles: usize) -> Bench {
+        Bench {
+            words: words::of_bytes(&kit),
+            kit,
+            cycles,
+            output: vec![0; 3 * cycles],
+            text: vec![0; listing::LARGEST],
+            repeats: [1; 4],
+            samples: [const { Vec::new() }; 4],
         }
-    })
-}
-
-/// How often a call is repeated in a sample.
-fn repeats(call: &mut dyn FnMut() -> usize) -> u32 {
-    sample(call, 3);
-    let once = sample(call, 10);
-    (SAMPLE.as_nanos() as f64 / once.max(1.0)).clamp(1.0, 1e6) as u32
-}
-
-/// Nanoseconds of one of so many calls.
-fn sample(call: &mut dyn FnMut() -> usize, repeats: u32) -> f64 {
-    let start = Instant::now();
-    for _ in 0..repeats {
-        black_box(call());
     }
-    start.elapsed().as_nanos() as f64 / f64::from(repeats)
+
+    fn call(&mut self, call: Call) -> usize {
+        let (kit, words) = (black_box(&self.kit), black_box(&self.words));
+        let (output, text) = (black_box(&mut self.output), black_box(&mut self.text));
+        match call {
+            Call::Run => proved::run_kit(words, output),
+            Call::ModelRun => listing::run(words, output).unwrap_or(0),
+            Call::List => proved::list_kit(kit, text),
+            Call::ModelList => listing::list_into(kit, text).unwrap_or(0),
+        }
+    }
+
+    /// Costs say something only where both do the same work.
+    fn compare(&mut self) -> Result<(), String> {
+        let answers = CALLS.map(|call| {
+            self.output.fill(0);
+            self.text.fill(0);
+            let answer = self.call(call);
+            (answer, self.output.clone(), self.text.clone())
+        });
+        let [run, model_run, list, model_list] = answers;
+        match run.0 == self.cycles && run == model_run && list == model_list {
+            true => Ok(()),
+            false => Err(format!(
+                "the answers differ for a log of {} cycles",
+                self.cycles
+            )),
+        }
+    }
+
+    /// How often a call is repeated in a sample.
+    fn repeats_of(&mut self, call: Call) -> u32 {
+        let once = self.sample(call, 10);
+        (SAMPLE.as_nanos() as f64 / once.max(1.0)).clamp(1.0, 1e6) as u32
+    }
+
+    /// Nanoseconds of one of so many calls.
+    fn sample(&mut self, call: Call, repeats: u32) -> f64 {
+        let start = Instant::now();
+        for _ in 0..repeats {
+            black_box(self.call(call));
+        }
+        start.elapsed().as_nanos() as f64 / f64::from(repeats)
+    }
+
+    /// One more sample of each call.
+    fn round(&mut self) {
+        for (of, call) in CALLS.into_iter().enumerate() {
+            let sample = self.sample(call, self.repeats[of]);
+            self.samples[of].push(sample);
+        }
+    }
 }
 
 /// A kit's bytes, or why there are none.

@@ -79,3 +79,19 @@ accepted-kit s vs us log = (λ e. go (readList s .answer) refl e, made)
         ap (λ (r : ListRead). first s r (r .answer)) first-is
         ∙ ap (λ (r : ListRead). second (t .n) (record { values = vs; count = 51 }) r (r .answer)) second-is
         ∙ ap (accepting vs us) (sym (t .behind))
+
+-- the log of an accepted kit begins inside it or right behind it
+pub kit-used : (s : List ℕ) (log : ℕ) → readKit s .answer ≡ K.the-variants.Accepted log → log ≤ length s
+unfolding readKit
+kit-used s log = go (readList s .answer) refl
+  where
+    at-second : (n : ℕ) → readList s .answer ≡ A.the-variants.Accepted n → (x : A.ListAnswer) → readList (drop n s) .answer ≡ x →
+        second n (readList s .list) (readList (drop n s)) x .answer ≡ K.the-variants.Accepted log → log ≤ length s
+    at-second n h (A.the-variants.Accepted m) g e =
+        let sum : n + m ≡ log = cc in
+        omega (arith, sum, both-used s refl h (ap readList (sym (rest-is s n))) g)
+    at-second n h (A.the-variants.Refused i p) g e = never (cc)
+
+    go : (x : A.ListAnswer) → readList s .answer ≡ x → first s (readList s) x .answer ≡ K.the-variants.Accepted log → log ≤ length s
+    go (A.the-variants.Accepted n) h e = at-second n h (readList (drop n s) .answer) refl e
+    go (A.the-variants.Refused i p) h e = never (cc)

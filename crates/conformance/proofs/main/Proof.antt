@@ -1,0 +1,50 @@
+-- `conformance::main` meets its contract. Assumes nothing.
+use Prim.Native.Nat.{_-_}
+use borrow.Author.Needs.{needs}
+use Rattle.conformance.proofs.main.Statement.{statement}
+use Rattle.conformance.proofs.main.Tie as tie
+use Rattle.conformance.proofs.main.Reads as reads
+use Rattle.conformance.proofs.main.Lts as lts
+use Rattle.conformance.proofs.list_argument.Reads as list-argument-reads
+use Rattle.os.proofs.arg_count.Reads as arg-count-reads
+
+abbrev Inv-loop : tie.InvT-loop
+Inv-loop many i₀ i = Unit {0}
+
+abbrev μ-loop : tie.MeasureT-loop
+μ-loop many i₀ i = many - i
+
+arg-count-requires : tie.Need-arg-count-requires Inv-loop μ-loop
+arg-count-requires c κs = search needs
+
+loop-holds : tie.Need-loop-holds Inv-loop μ-loop
+loop-holds c = search needs
+
+list-argument-requires : tie.Need-list-argument-requires Inv-loop μ-loop
+list-argument-requires c κs = search needs
+
+add-i : tie.Need-add-i Inv-loop μ-loop
+add-i c = search needs
+
+loop-less : tie.Need-loop-less Inv-loop μ-loop
+loop-less c = search needs
+
+loop-again : tie.Need-loop-again Inv-loop μ-loop
+loop-again c = search needs
+
+returns : tie.Need-returns Inv-loop μ-loop
+returns c = search needs
+
+pub main-spec : {M : Type 1} → statement M
+main-spec =
+    tie.close
+    (tie.spec
+    Inv-loop
+    μ-loop
+    arg-count-requires
+    loop-holds
+    list-argument-requires
+    add-i
+    loop-less
+    loop-again
+    returns)

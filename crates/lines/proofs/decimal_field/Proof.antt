@@ -1,0 +1,28 @@
+-- `lines::decimal_field` meets its contract. Assumes nothing.
+use denote.Ref.{now}
+use Rattle.lines.proofs.Fields.{field-put}
+use borrow.Author.Needs.{needs}
+use Rattle.lines.proofs.decimal_field.Statement.{statement}
+use Rattle.lines.proofs.decimal_field.Tie as tie
+use Rattle.lines.proofs.decimal_field.Reads as reads
+use Rattle.lines.proofs.decimal_field.Lts as lts
+use Rattle.numerals.proofs.put_decimal.Reads as put-decimal-reads
+
+put-decimal-requires : tie.Need-put-decimal-requires
+put-decimal-requires c κs = search needs
+
+add-out : tie.Need-add-out
+add-out c = search needs
+
+slice-write-out : tie.Need-slice-write-out
+slice-write-out c = search needs
+
+same-length : tie.Need-same-length
+same-length c = search needs
+
+returns : tie.Need-returns
+returns c = let a = c .before .before .before .before .before .args in field-put 10 (a .at) (a .many) (a .n) (now (a .out)) (c .before .before .before .before .before .pre) (c .before .before .put-decimal .ensures) (a .end)
+
+pub decimal-field-spec : {M : Type 1} → statement M
+decimal-field-spec =
+    tie.close (tie.spec put-decimal-requires add-out slice-write-out same-length returns)

@@ -1,0 +1,48 @@
+-- A run's lines three words at a time, and a kit's words four bytes at a time. Assumes nothing.
+use mathlib.Core.Path.{_≡_, refl, sym, ap, _∙_}
+use mathlib.Core.List.{List, [], _∷_, _++_}
+use Prim.Native.Nat.{ℕ, suc, _+_, _≤_, _<_}
+use native.Mathlib.Omega.{arith}
+use lib.ListN.{length, getD, drop, length-drop}
+use lib.Seq.{drop-cons}
+use Rattle.lines.specs.Lines.{line}
+use Rattle.listing.specs.Listing.{linesFrom, wordOf, wordsOf}
+
+-- the list from a place on, its first elements taken off
+module _ (l : List ℕ) where
+  three : (j : ℕ) → j + 2 < length l → drop j l ≡ getD l j 0 ∷ getD l (j + 1) 0 ∷ getD l (j + 2) 0 ∷ drop (j + 3) l
+  three j h =
+      let one : suc j ≡ j + 1 = omega arith in
+      let two : suc (j + 1) ≡ j + 2 = omega arith in
+      let end : suc (j + 2) ≡ j + 3 = omega arith in
+      drop-cons l j 0 (omega arith)
+      ∙ ap (λ (r : List ℕ). getD l j 0 ∷ r) (ap (λ (k : ℕ). drop k l) one ∙ drop-cons l (j + 1) 0 (omega arith)
+      ∙ ap (λ (r : List ℕ). getD l (j + 1) 0 ∷ r) (ap (λ (k : ℕ). drop k l) two ∙ drop-cons l (j + 2) 0 h ∙ ap (λ (k : ℕ). getD l (j + 2) 0 ∷ drop k l) end))
+
+  four : (j : ℕ) → j + 3 < length l → drop j l ≡ getD l j 0 ∷ getD l (j + 1) 0 ∷ getD l (j + 2) 0 ∷ getD l (j + 3) 0 ∷ drop (j + 4) l
+  four j h =
+      let end : suc (j + 3) ≡ j + 4 = omega arith in
+      three j (omega arith)
+      ∙ ap (λ (r : List ℕ). getD l j 0 ∷ getD l (j + 1) 0 ∷ getD l (j + 2) 0 ∷ r) (drop-cons l (j + 3) 0 h ∙ ap (λ (k : ℕ). getD l (j + 3) 0 ∷ drop k l) end)
+
+  pub lines-more : (cycle j : ℕ) → j + 2 < length l →
+      linesFrom cycle (drop j l) ≡ line cycle (getD l j 0) (getD l (j + 1) 0) (getD l (j + 2) 0) ++ linesFrom (suc cycle) (drop (j + 3) l)
+  unfolding linesFrom
+  lines-more cycle j h = ap (linesFrom cycle) (three j h)
+
+  pub lines-none : (cycle j : ℕ) → length l ≤ j + 2 → linesFrom cycle (drop j l) ≡ []
+  unfolding linesFrom
+  lines-none cycle j h = go (drop j l) (omega (arith, length-drop j l))
+    where
+      go : (r : List ℕ) → length r ≤ 2 → linesFrom cycle r ≡ []
+      go [] k = refl
+      go (a ∷ []) k = refl
+      go (a ∷ b ∷ []) k = refl
+      go (a ∷ b ∷ c ∷ r) k = absurd (never k)
+        where
+          never : suc (suc (suc (length r))) ≤ 2 → ⊥
+          never y = omega arith
+
+  pub words-more : (j : ℕ) → j + 3 < length l → wordsOf (drop j l) ≡ wordOf (getD l j 0) (getD l (j + 1) 0) (getD l (j + 2) 0) (getD l (j + 3) 0) ∷ wordsOf (drop (j + 4) l)
+  unfolding wordsOf
+  words-more j h = ap wordsOf (four j h)

@@ -1,0 +1,30 @@
+-- `listing::put_listing` meets its contract. Assumes nothing.
+use denote.Ref.{now}
+use Rattle.listing.specs.Listing.{linesFrom}
+use Rattle.listing.proofs.Texts.{put-front, left-alone}
+use borrow.Author.Needs.{needs}
+use Rattle.listing.proofs.put_listing.Statement.{statement}
+use Rattle.listing.proofs.put_listing.Tie as tie
+use Rattle.listing.proofs.put_listing.Reads as reads
+use Rattle.listing.proofs.put_listing.Lts as lts
+use Rattle.listing.proofs.lines_length.Reads as lines-length-reads
+use Rattle.listing.proofs.put_lines.Reads as put-lines-reads
+
+lines-length-requires : tie.Need-lines-length-requires
+lines-length-requires c κs = search needs
+
+put-lines-requires : tie.Need-put-lines-requires
+put-lines-requires c κs = search needs
+
+same-length : tie.Need-same-length
+same-length c = search needs
+
+returns : tie.Need-returns
+returns c = let a = c .before .before .before .before .before .before .before .before .args in put-front (linesFrom 1 (now (a .words))) (now (a .out)) (c .before .before .before .before .before .lines-length .ensures) (c .before .before .before .before .if1 .taken) (c .before .before .put-lines .ensures)
+
+returns-2 : tie.Need-returns-2
+returns-2 c = let a = c .before .before .before .before .args in left-alone (linesFrom 1 (now (a .words))) (now (a .out)) (c .before .lines-length .ensures) (c .if1 .left)
+
+pub put-listing-spec : {M : Type 1} → statement M
+put-listing-spec =
+    tie.close (tie.spec lines-length-requires put-lines-requires same-length returns returns-2)

@@ -1,0 +1,60 @@
+-- `numerals::hex_digits` meets its contract. Assumes nothing.
+use native.Mathlib.Omega.{arith}
+use denote.Ref.{now}
+use borrow.Author.Needs.{needs}
+use Rattle.numerals.proofs.Placed.{Placing, begins, goes-on, ends}
+use Rattle.numerals.proofs.hex_digits.Statement.{statement}
+use Rattle.numerals.proofs.hex_digits.Tie as tie
+
+abbrev Inv-loop : tie.InvT-loop
+Inv-loop out₀ at many n rest₀ i₀ out rest i = Placing 16 at many n out₀ out rest i
+
+abbrev μ-loop : tie.MeasureT-loop
+μ-loop out₀ at many n rest₀ i₀ out rest i = i
+
+loop-holds : tie.Need-loop-holds Inv-loop μ-loop
+loop-holds c = let a = c .before .args in begins 16 (a .at) (a .many) (a .n) (now (a .out))
+
+sub-i : tie.Need-sub-i Inv-loop μ-loop
+sub-i c = search needs
+
+cast-glyph : tie.Need-cast-glyph Inv-loop μ-loop
+cast-glyph c = search needs
+
+glyph-requires : tie.Need-glyph-requires Inv-loop μ-loop
+glyph-requires c κs = search needs
+
+add-out : tie.Need-add-out Inv-loop μ-loop
+add-out c = let l = c .before .before .loop in omega (arith, l .inv .left, c .before .before .before .before .pre, c .before .before .before .before .good)
+
+slice-write-out : tie.Need-slice-write-out Inv-loop μ-loop
+slice-write-out c = let l = c .before .before .loop in omega (arith, l .inv .left, l .inv .size, c .before .loop-test .taken, c .before .before .before .before .pre)
+
+loop-less : tie.Need-loop-less Inv-loop μ-loop
+loop-less c = search needs
+
+loop-again : tie.Need-loop-again Inv-loop μ-loop
+loop-again c = let a = c .before .before .before .before .args in goes-on 16 (a .at) (a .many) (a .n) (now (a .out)) (c .before .before .loop .inv) (c .glyph .ensures) (c .before .loop-test .taken) (c .before .before .before .before .pre)
+
+same-length : tie.Need-same-length Inv-loop μ-loop
+same-length c = c .before .loop .inv .size
+
+returns : tie.Need-returns Inv-loop μ-loop
+returns c = let a = c .before .before .before .args in ends 16 (a .at) (a .many) (a .n) (now (a .out)) (c .before .loop .inv) (c .loop-test .left)
+
+pub hex-digits-spec : {M : Type 1} → statement M
+hex-digits-spec =
+    tie.close
+    (tie.spec
+    Inv-loop
+    μ-loop
+    loop-holds
+    sub-i
+    cast-glyph
+    glyph-requires
+    add-out
+    slice-write-out
+    loop-less
+    loop-again
+    same-length
+    returns)

@@ -5,7 +5,7 @@
 //! from document 01; a kit that lists otherwise is refused here, so that it cannot go unnoticed.
 
 use crate::kit::{self, Fault};
-use crate::{listing, Deviant, Deviation};
+use crate::{listing, Deviation};
 use std::fs;
 use std::io;
 use std::path::Path;
@@ -44,7 +44,7 @@ impl Kit {
 
     /// Whether its listing tells a program with this deviation from document 01.
     pub fn tells(&self, deviation: Deviation) -> bool {
-        listing::list_as(Deviant(deviation), &self.bytes) != self.listing
+        listing::tells(&self.bytes, &self.listing, deviation)
     }
 }
 
@@ -105,6 +105,9 @@ pub fn read(folder: &Path) -> Result<Vec<Kit>, String> {
             Ok(kit) => kits.push(kit),
             Err(fault) => faults.push(fault),
         }
+    }
+    if kits.is_empty() && faults.is_empty() {
+        faults.push(format!("{}: no kits", folder.display()));
     }
     if !faults.is_empty() {
         return Err(faults.join("\n"));
@@ -190,26 +193,31 @@ pub fn untold(kits: &[Kit]) -> Vec<Deviation> {
 /// For each deviation how many kits tell it, with the first of them; for each kit how many
 /// deviations it tells, and how many of these no other does.
 pub fn power(kits: &[Kit]) -> String {
-    const FIRST: usize = 4;
-    let mut tells = vec![(0, 0); kits.len()];
-    let mut text = String::new();
-    for &deviation in Deviation::ALL {
-        let by: Vec<usize> = (0..kits.len())
-            .filter(|&index| kits[index].tells(deviation))
-            .collect();
-        for &index in &by {
-            tells[index].0 += 1;
-            tells[index].1 += usize::from(by.len() == 1);
-        }
-        let first: Vec<&str> = by
-            .iter()
-            .take(FIRST)
-            .map(|&index| &*kits[index].name)
-            .collect();
-        text += &format!("{} {}: {}\n", deviation.name(), by.len(), first.join(" "));
-    }
-    for (kit, (told, alone)) in kits.iter().zip(tells) {
-        text += &format!("{}: tells {told}, alone {alone}\n", kit.name);
-    }
-    text
+    let all = Deviation::ALL;
+    let told_by: Vec<Vec<usize>> = all.iter().map(|&one| telling(kits, one)).collect();
+    let deviations = all.iter().zip(&told_by);
+    let deviations = deviations.map(|(&deviation, by)| deviation_line(deviation, by, kits));
+    let kits = kits.iter().enumerate();
+    let kits = kits.map(|(index, kit)| kit_line(kit, index, &told_by));
+    deviations.chain(kits).collect()
+}
+
+/// The kits that tell a deviation.
+fn telling(kits: &[Kit], deviation: Deviation) -> Vec<usize> {
+    let all = 0..kits.len();
+    all.filter(|&index| kits[index].tells(deviation)).collect()
+}
+
+/// `RestsInStopA 290: acknowledged-at-rest acknowledged-both-channels ..`
+fn deviation_line(deviation: Deviation, by: &[usize], kits: &[Kit]) -> String {
+    let first = by.iter().take(4).map(|&index| kits[index].name.as_str());
+    let first: Vec<&str> = first.collect();
+    format!("{} {}: {}\n", deviation.name(), by.len(), first.join(" "))
+}
+
+/// `acknowledged-at-rest: tells 40, alone 0`
+fn kit_line(kit: &Kit, index: usize, told_by: &[Vec<usize>]) -> String {
+    let tells = told_by.iter().filter(|by| by.contains(&index)).count();
+    let alone = told_by.iter().filter(|by| by[..] == [index]).count();
+    format!("{}: tells {tells}, alone {alone}\n", kit.name)
 }

@@ -141,6 +141,8 @@ fn the_command_makes_the_files_and_takes_stale_ones_away() {
 fn the_command_names_file_line_and_reason() {
     let (texts, made) = (folder("faults"), folder("not-made"));
     let page: &[u8] = b"# 01: \"T\"\n";
+    let empty = kit(&["conformance".as_ref(), &texts, &made]);
+    assert!(String::from_utf8_lossy(&empty.stderr).contains("faults: no kits"));
     for (file, bytes, told) in [
         (
             "a.txt",

@@ -1,6 +1,6 @@
 //! `kit`: from the text form of a kit to its bytes, back again, and to the model's listing.
 
-use model::{conformance, kit, listing, Deviant, Deviation};
+use model::{conformance, kit, listing, Deviation};
 use std::io::{Read, Write};
 use std::path::Path;
 use std::process::ExitCode;
@@ -75,7 +75,7 @@ fn tell(bytes: &[u8]) -> String {
     let paper = listing::list(bytes);
     let told = Deviation::ALL
         .iter()
-        .filter(|&&deviation| listing::list_as(Deviant(deviation), bytes) != paper);
+        .filter(|&&deviation| listing::tells(bytes, &paper, deviation));
     told.map(|deviation| format!("{}: {}\n", deviation.name(), deviation.what()))
         .collect()
 }

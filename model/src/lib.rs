@@ -36,6 +36,9 @@ pub mod deviation;
 // Kits as people write them.
 pub mod kit;
 
+// Kits that were chosen.
+pub mod conformance;
+
 // Kits by chance.
 pub mod random;
 

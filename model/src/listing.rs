@@ -1,7 +1,7 @@
 //! The bench program: from a kit's bytes to the bench's text.
 
 use crate::channel::Channel;
-use crate::deviation::{paper, Paper, Reading};
+use crate::deviation::{paper, Deviant, Deviation, Paper, Reading};
 use crate::list::{self, Refusal};
 use crate::log;
 
@@ -40,6 +40,11 @@ pub fn list_into(kit: &[u8], buffer: &mut [u8]) -> Result<usize, usize> {
 /// [`list`] by any reading.
 pub fn list_as<R: Reading>(r: R, kit: &[u8]) -> String {
     String::from_utf8(bytes(r, kit)).unwrap_or_default()
+}
+
+/// Whether a kit tells a program with this deviation from document 01, which lists it so.
+pub fn tells(kit: &[u8], listing: &str, deviation: Deviation) -> bool {
+    list_as(Deviant(deviation), kit) != listing
 }
 
 /// The text as bytes.

@@ -90,6 +90,10 @@ fn many_ways_to_say_the_same() {
             true => assert_ne!(bytes(text), plain, "{text}"),
         }
     }
+    assert_eq!(
+        bytes("list A\n3 = binary32 lowest\n4 = binary64 highest+1"),
+        bytes("list A\n3 = binary32 1\n4 = binary64 1_000_001")
+    );
     let highest = bytes("lists A and B, else highest");
     assert_eq!(listing::list(&highest), "");
     assert_eq!(
@@ -139,6 +143,17 @@ fn faults_come_with_line_and_reason() {
             "is no binary32",
         ),
         ("list A\n3 = binary64 9007199254740993", 2, "is no binary64"),
+        (
+            "list A\n12 = binary32 highest+1",
+            2,
+            "'100000001' is no binary32",
+        ),
+        (
+            "list A\n11 = lowest-2147483648",
+            2,
+            "'-2247483648' is not a 32-bit whole number",
+        ),
+        ("list A\n11 = lowest-x", 2, "'-x' is not an offset"),
         ("list A\n3 = binary32 0x123456789", 2, "32-bit word"),
         (
             "list A\n3 = binary64 0x12345678901234567",

@@ -1,13 +1,17 @@
 //! `kit`: from the text form of a kit to its bytes, back again, and to the model's listing.
 
-use model::{kit, listing, Deviant, Deviation};
+use model::{conformance, kit, listing, Deviation};
 use std::io::{Read, Write};
+use std::path::Path;
 use std::process::ExitCode;
 
 const USAGE: &str = "kit assemble FILE   a kit's text to its bytes
 kit show FILE       a kit's bytes to text
 kit list FILE       the model's listing of a kit
 kit tell FILE       the deviations that a kit tells from document 01
+kit power KITS      for each deviation the kits of a folder that tell it
+kit conformance KITS CRATE
+                    a folder's kits to data/, args and stdout of a crate's folder
 FILE may be -, for standard input.
 ";
 
@@ -21,6 +25,8 @@ fn main() -> ExitCode {
         ["show", file] => read(file).map(|bytes| kit::show(&bytes).into_bytes()),
         ["list", file] => read(file).map(|bytes| listing::list(&bytes).into_bytes()),
         ["tell", file] => read(file).map(|bytes| tell(&bytes).into_bytes()),
+        ["power", kits] => power(kits),
+        ["conformance", kits, folder] => make_conformance(kits, folder),
         _ => Err(USAGE.into()),
     };
     match answer.and_then(|bytes| write(&bytes)) {
@@ -49,22 +55,27 @@ fn write(bytes: &[u8]) -> Result<(), String> {
 }
 
 fn assemble(file: &str, bytes: &[u8]) -> Result<Vec<u8>, String> {
-    let text = match std::str::from_utf8(bytes) {
-        Ok(text) => text,
-        Err(error) => {
-            let before = &bytes[..error.valid_up_to()];
-            let line = 1 + before.iter().filter(|&&byte| byte == b'\n').count();
-            return Err(format!("{file}: line {line}: no text"));
-        }
-    };
-    kit::assemble(text).map_err(|fault| format!("{file}: {fault}"))
+    let assembled = kit::text(bytes).and_then(kit::assemble);
+    assembled.map_err(|fault| format!("{file}: {fault}"))
+}
+
+/// The files of a crate that runs a folder's kits: what was written.
+fn make_conformance(kits: &str, folder: &str) -> Result<Vec<u8>, String> {
+    let kits = conformance::read(Path::new(kits))?;
+    conformance::write(&kits, Path::new(folder))?;
+    Ok(format!("{} kits\n", kits.len()).into_bytes())
+}
+
+fn power(kits: &str) -> Result<Vec<u8>, String> {
+    let kits = conformance::read(Path::new(kits))?;
+    Ok(conformance::power(&kits).into_bytes())
 }
 
 fn tell(bytes: &[u8]) -> String {
     let paper = listing::list(bytes);
     let told = Deviation::ALL
         .iter()
-        .filter(|&&deviation| listing::list_as(Deviant(deviation), bytes) != paper);
+        .filter(|&&deviation| listing::tells(bytes, &paper, deviation));
     told.map(|deviation| format!("{}: {}\n", deviation.name(), deviation.what()))
         .collect()
 }

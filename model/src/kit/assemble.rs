@@ -23,6 +23,17 @@ impl fmt::Display for Fault {
     }
 }
 
+/// A file's bytes as text.
+pub fn text(bytes: &[u8]) -> Result<&str, Fault> {
+    std::str::from_utf8(bytes).map_err(|error| {
+        let before = &bytes[..error.valid_up_to()];
+        Fault {
+            line: 1 + before.iter().filter(|&&byte| byte == b'\n').count(),
+            reason: "no text".into(),
+        }
+    })
+}
+
 /// A kit's bytes from its text.
 pub fn assemble(text: &str) -> Result<Vec<u8>, Fault> {
     let mut assembly = Assembly {
@@ -418,31 +429,35 @@ fn numbers(token: &str) -> Result<(usize, usize), String> {
 fn datum(number: usize, tokens: &mut Tokens) -> Result<Datum, String> {
     match next(tokens, "a value")? {
         "open" => Ok(Datum::Open),
-        "binary32" => binary32(next(tokens, "a value")?).map(Datum::Binary32),
-        "binary64" => binary64(next(tokens, "a value")?).map(Datum::Binary64),
+        "binary32" => {
+            let value = at_end(number, next(tokens, "a value")?)?;
+            binary32(&value).map(Datum::Binary32)
+        }
+        "binary64" => {
+            let value = at_end(number, next(tokens, "a value")?)?;
+            binary64(&value).map(Datum::Binary64)
+        }
         token if token.starts_with("0x") => word(token).map(|bits| Datum::Whole(bits as i32)),
         token => {
-            let (low, high) = range(number);
-            let end = |end: i32, offset: &str| match offset {
-                "" => Ok(i64::from(end)),
-                _ => integer(offset, -1 << 31, 1 << 31, "an offset")
-                    .map(|offset| i64::from(end) + offset),
-            };
-            let value = if let Some(offset) = token.strip_prefix("lowest") {
-                end(low, offset)?
-            } else if let Some(offset) = token.strip_prefix("highest") {
-                end(high, offset)?
-            } else {
-                integer(
-                    token,
-                    i64::from(i32::MIN),
-                    i64::from(i32::MAX),
-                    "a 32-bit whole number",
-                )?
-            };
-            i32::try_from(value)
-                .map(Datum::Whole)
-                .map_err(|_| format!("{value} has no 32 bits"))
+            let (low, high) = (i64::from(i32::MIN), i64::from(i32::MAX));
+            let value = at_end(number, token)?;
+            integer(&value, low, high, "a 32-bit whole number")
+                .map(|value| Datum::Whole(value as i32))
+        }
+    }
+}
+
+/// `lowest-1`, `highest` as a number's text; any other text as it is.
+fn at_end(number: usize, token: &str) -> Result<String, String> {
+    let (low, high) = range(number);
+    let lowest = token.strip_prefix("lowest").map(|offset| (low, offset));
+    let highest = token.strip_prefix("highest").map(|offset| (high, offset));
+    match lowest.or(highest) {
+        None => Ok(token.into()),
+        Some((end, "")) => Ok(end.to_string()),
+        Some((end, offset)) => {
+            let offset = integer(offset, -1 << 31, 1 << 31, "an offset")?;
+            Ok((i64::from(end) + offset).to_string())
         }
     }
 }

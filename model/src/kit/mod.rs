@@ -4,7 +4,7 @@ mod assemble;
 mod input_words;
 mod show;
 
-pub use assemble::{assemble, Fault};
+pub use assemble::{assemble, text, Fault};
 pub use show::show;
 
 use crate::machine_data::{self, range};

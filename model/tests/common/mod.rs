@@ -2,7 +2,9 @@
 
 #![allow(dead_code)]
 
+use model::conformance::{self, Kit};
 use model::{kit, listing, MachineData};
+use std::path::{Path, PathBuf};
 
 /// The bytes of a kit's text.
 pub fn bytes(text: &str) -> Vec<u8> {
@@ -39,5 +41,20 @@ impl Xorshift {
 
     pub fn below(&mut self, end: u64) -> u64 {
         self.next() % end
+    }
+}
+
+/// A folder beside this package.
+pub fn beside(folder: &str) -> PathBuf {
+    Path::new(env!("CARGO_MANIFEST_DIR"))
+        .join("..")
+        .join(folder)
+}
+
+/// The conformance kits.
+pub fn kits() -> Vec<Kit> {
+    match conformance::read(&beside("kits")) {
+        Ok(kits) => kits,
+        Err(faults) => panic!("{faults}"),
     }
 }

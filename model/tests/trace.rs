@@ -282,7 +282,16 @@ fn of_patterns<'a>(
 
 fn of_row(row: &Row, there: &Repository, notes: &[String]) -> Vec<String> {
     let id = &row.id;
-    let mut faults = of_names(id, "definition", &row.definitions, &there.definitions);
+    let mut faults = Vec::new();
+    if row.sentence.is_empty() {
+        faults.push(format!("{id}: no sentence"));
+    }
+    faults.extend(of_names(
+        id,
+        "definition",
+        &row.definitions,
+        &there.definitions,
+    ));
     faults.extend(of_names(id, "theorem", &row.theorems, &there.theorems));
     faults.extend(of_patterns(id, "kit", &row.kits, there.kits.keys(), notes));
     faults.extend(of_patterns(
@@ -426,6 +435,7 @@ fn a_good_page_has_no_fault() {
 fn each_fault_of_a_row_is_found() {
     for (old, new, fault) in [
         ("X2", "X1", "X1: twice"),
+        ("The first part of it.", "", "X1: no sentence"),
         ("`c/Def`", "", "X1: no definition"),
         ("`c/Def`", "– (1)", "X1: no definition"),
         ("`c/law`", "", "X1: no theorem"),

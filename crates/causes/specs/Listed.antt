@@ -1,4 +1,4 @@
--- What a list of causes holds, in whatever order: document 01, "it holds each code that stands once, and no other".
+-- What a list of causes holds, in whatever order: document 01, "the list holds each code that stands once, and no other".
 use Prim.Native.Nat.{ℕ, _+_, _≤_}
 use mathlib.Core.Path.{_≡_}
 use mathlib.Core.Bool.{_&&_}

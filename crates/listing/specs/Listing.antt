@@ -49,7 +49,7 @@ byLists words r (K.the-variants.Accepted at) = byLog (r .a) (r .b) (logOf (drop 
 byLists words r (K.the-variants.RefusedA number place) = refusal number place (letterOf P.the-variants.ListA)
 byLists words r (K.the-variants.RefusedB number place) = refusal number place (letterOf P.the-variants.ListB)
 
--- "It reads a kit (list A, list B, log)"
+-- "It reads a kit (list A, list B, log; .."
 unfoldable pub ofWords : List ℕ → List ℕ
 ofWords words = byLists words (readKit words) (readKit words .answer)
 

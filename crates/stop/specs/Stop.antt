@@ -32,7 +32,7 @@ rankFrom (suc (suc (suc (suc (suc n))))) = A
 abbrev pub strongerOf : Rank → Rank → Rank
 strongerOf a b = cond (ltb (rankNumber a) (rankNumber b)) b a
 
--- "29-32: times of STOP C, D, E; B to A"; "0 for A"
+-- "29-32 | times of STOP C, D, E; B to A"; "0 for A"
 abbrev pub timeOf : List ℤ → Rank → ℕ
 timeOf d None = 0
 timeOf d E = numberOf d 31

@@ -6,6 +6,9 @@ use super::svg::{room, Anchor, Canvas, LETTERS, TITLE, WIDTH};
 /// The room on the left for names and labels.
 const LEFT: f64 = 184.0;
 
+/// The room on the right, for the number of a narrow last column.
+const RIGHT: f64 = 14.0;
+
 /// A column of few cycles is no wider than this.
 const WIDEST: f64 = 84.0;
 
@@ -21,6 +24,9 @@ const MARGIN: f64 = 14.0;
 
 /// The room above and below what a lane shows.
 const PAD: f64 = 3.0;
+
+/// The room for a sample in a legend.
+const SAMPLE: f64 = 28.0;
 
 const GREY: &str = "#ccc";
 const BLACK: &str = "#000";
@@ -77,7 +83,7 @@ struct Columns {
 
 impl Columns {
     fn new(first: usize, cycles: usize) -> Columns {
-        let width = (WIDTH - LEFT - 1.0) / cycles.max(1) as f64;
+        let width = (WIDTH - LEFT - RIGHT) / cycles.max(1) as f64;
         Columns {
             first,
             cycles,
@@ -137,12 +143,15 @@ fn height(lane: &Lane) -> f64 {
 fn draw_lane(canvas: &mut Canvas, columns: &Columns, lane: &Lane, top: f64) {
     canvas.name(0.0, top + PAD + LETTERS, &lane.name);
     for (line, (style, text)) in (1..).zip(&lane.legend) {
-        draw_key(
-            canvas,
-            top + PAD + LETTERS + f64::from(line) * LINE,
-            *style,
-            text,
-        );
+        let y = top + PAD + LETTERS + f64::from(line) * LINE;
+        draw_key(canvas, y, *style);
+        // The unit stands below the name; other words go with a sample, beside or above them.
+        let x = if line == 1 && style.is_none() {
+            0.0
+        } else {
+            SAMPLE
+        };
+        canvas.text(x, y, Anchor::Start, text);
     }
     match &lane.shows {
         Shows::Curves(curves, scale) => {
@@ -158,17 +167,16 @@ fn draw_lane(canvas: &mut Canvas, columns: &Columns, lane: &Lane, top: f64) {
     }
 }
 
-/// A line of a legend, with a sample of what it names.
-fn draw_key(canvas: &mut Canvas, y: f64, style: Option<Style>, text: &str) {
-    let middle = y - 0.35 * LETTERS;
+/// The sample of a legend's line.
+fn draw_key(canvas: &mut Canvas, y: f64, style: Option<Style>) {
+    let (middle, width) = (y - 0.35 * LETTERS, SAMPLE - 5.0);
     match style {
-        None => return canvas.text(0.0, y, Anchor::Start, text),
+        None => (),
         Some(style @ (Style::Filled | Style::Hollow)) => {
-            canvas.bar(0.5, middle - 2.5, 22.0, 5.0, style)
+            canvas.bar(0.5, middle - 2.5, width, 5.0, style)
         }
-        Some(style) => canvas.path(&format!("M0 {middle:.1}H23"), style),
+        Some(style) => canvas.path(&format!("M0 {middle:.1}H{width}"), style),
     }
-    canvas.text(27.0, y, Anchor::Start, text);
 }
 
 fn draw_row(canvas: &mut Canvas, columns: &Columns, row: &Row, top: f64) {
@@ -266,6 +274,10 @@ impl Frame {
             canvas.path(&self.staircase(columns, &curve.values), curve.style);
         }
         for (place, curve) in curves.iter().enumerate() {
+            // A guide's numbers are in the legend.
+            if curve.style == Style::Guide {
+                continue;
+            }
             let others = curves.iter().enumerate();
             let others: Vec<&Curve> = others
                 .filter(|&(other, _)| other != place)

@@ -42,10 +42,9 @@ pub enum Scale {
 #[derive(Clone, Copy, Debug, PartialEq, Eq)]
 pub enum Style {
     Plain,
-    /// Broad and grey, so that a dashed line shows where it lies on it.
+    /// Broad and grey, so that it shows where another line lies on it.
     Broad,
     Dashed,
-    Limit,
     Guide,
     Filled,
     Hollow,
@@ -100,7 +99,7 @@ const BOTH: &str = "A and B";
 
 impl Lane {
     fn of_channel(mut self, channel: &str) -> Lane {
-        self.name = format!("{} {channel}", self.name);
+        self.name = format!("{}, {channel}", self.name);
         self
     }
 
@@ -173,7 +172,9 @@ fn position(a: &Side, b: &Side) -> Option<Lane> {
     let guides: Vec<Guide> = near.collect();
     let lane = lane.with(Style::Plain, BOTH, [of_a]);
     Some(guides.into_iter().fold(lane, |lane, guide| {
-        lane.with(Style::Guide, &guide.name, guide.bounds)
+        let mut lane = lane.with(Style::Guide, &guide.name, guide.bounds);
+        lane.legend.push((None, guide.apart));
+        lane
     }))
 }
 
@@ -181,6 +182,8 @@ fn position(a: &Side, b: &Side) -> Option<Lane> {
 #[derive(Clone, Debug, PartialEq, Eq)]
 struct Guide {
     name: String,
+    /// How far apart they are.
+    apart: String,
     bounds: [Vec<Option<i64>>; 2],
 }
 
@@ -209,8 +212,10 @@ fn standstill(side: &Side) -> Option<Guide> {
         })
     };
     let bounds = [bound(-1), bound(1)];
+    let tolerance = side.first()?.after.data().get(number::STANDSTILL);
     bounds[0].iter().any(Option::is_some).then(|| Guide {
-        name: "tolerance".into(),
+        name: "hold or SBH".into(),
+        apart: format!("± tolerance {tolerance}"),
         bounds,
     })
 }
@@ -234,10 +239,11 @@ fn cam(side: &Side) -> Option<Guide> {
     };
     let data = first.after.data();
     let edge = i64::from(data.get(number::CAM + cam));
-    let end = edge + i64::from(data.get(number::CAM_TOLERANCE));
+    let tolerance = data.get(number::CAM_TOLERANCE);
     Some(Guide {
-        name: format!("{} edge", SIGNALS[cam].0),
-        bounds: [edge, end].map(|bound| vec![Some(bound); side.len()]),
+        name: format!("{} edge {edge}", SIGNALS[cam].0),
+        apart: format!("+ tolerance {tolerance}"),
+        bounds: [edge, edge + i64::from(tolerance)].map(|bound| vec![Some(bound); side.len()]),
     })
 }
 
@@ -255,11 +261,11 @@ fn speed(side: &Side) -> Option<Lane> {
         legend: vec![(None, "mm/min".into())],
         shows: Shows::Curves(Vec::new(), Scale::Hundredths),
     };
-    let lane = lane.with(Style::Plain, "|d|", [speeds]);
-    Some(match limited {
-        true => lane.with(Style::Limit, "limit in force", [limits]),
+    let lane = match limited {
+        true => lane.with(Style::Broad, "limit in force", [limits]),
         false => lane,
-    })
+    };
+    Some(lane.with(Style::Plain, "|d|", [speeds]))
 }
 
 /// |d| in T as hundredths of mm/min, for the eye only: the model compares without dividing.
@@ -353,12 +359,12 @@ const CAUSES: [&str; 13] = [
 
 /// F, and its count while it is on.
 fn f(side: &Side) -> Option<Lane> {
-    let on = bars("on", each(side, |cycle| cycle.after.f().on));
+    let on = bars("F on", each(side, |cycle| cycle.after.f().on));
     let count = |cycle: &Channelled| {
         let f = cycle.after.f();
         f.on.then_some(f.count)
     };
-    let count = numbers("count", each(side, count));
+    let count = numbers("F count", each(side, count));
     rows("F", on.into_iter().chain(count).collect())
 }
 
@@ -373,8 +379,8 @@ fn stop(side: &Side) -> Option<Lane> {
         let stop = cycle.after.stop();
         stop.rank.time().map(|_| stop.count)
     };
-    stops.extend(numbers("count", each(side, count)));
-    rows("channel", stops)
+    stops.extend(numbers("stop count", each(side, count)));
+    rows("stop", stops)
 }
 
 /// A row for each rank that there is, the highest first; none if there never is a stop.

@@ -57,7 +57,7 @@ fn plain_words(text: &str) -> &str {
 /// The picture of a kit, with a title and some plain words.
 pub fn picture(title: &str, plain: &str, kit: &[u8], range: Range) -> String {
     let head = |told: &str| Head {
-        title: title.into(),
+        title: cut(title),
         lines: [plain, told].into_iter().flat_map(wrapped).collect(),
     };
     let Ok(seen) = trace::of(kit) else {
@@ -122,14 +122,15 @@ fn counted(cycles: usize) -> String {
 /// A text in lines that have room in a picture, a few of them at most.
 fn wrapped(text: &str) -> Vec<String> {
     const MOST: usize = 4;
+    let letters = |text: &str| text.chars().count();
     let mut lines: Vec<String> = Vec::new();
     for word in text.split_whitespace() {
         match lines.last_mut() {
-            Some(line) if svg::room(line) + svg::room(word) < svg::WIDTH => {
+            Some(line) if letters(line) + letters(word) < svg::LINE_OF_TEXT => {
                 line.push(' ');
                 line.push_str(word);
             }
-            _ => lines.push(word.into()),
+            _ => lines.push(cut(word)),
         }
     }
     if lines.len() > MOST {
@@ -137,4 +138,13 @@ fn wrapped(text: &str) -> Vec<String> {
         lines.push("..".into());
     }
     lines
+}
+
+/// A word as far as a line of letters of any size has room for it.
+fn cut(word: &str) -> String {
+    const MOST: usize = 70;
+    match word.char_indices().nth(MOST) {
+        Some((end, _)) => format!("{}..", &word[..end]),
+        None => word.into(),
+    }
 }

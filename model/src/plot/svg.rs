@@ -12,10 +12,13 @@ pub const LETTERS: f64 = 10.0;
 /// The size of a title's letters.
 pub const TITLE: f64 = 12.0;
 
-/// The room that a text takes at most, in a wide typeface.
+/// The room that a number or a short label takes at most, in a wide typeface.
 pub fn room(text: &str) -> f64 {
     text.chars().count() as f64 * 0.64 * LETTERS
 }
+
+/// How many letters of running text a line has room for.
+pub const LINE_OF_TEXT: usize = 113;
 
 /// A picture in the making.
 #[derive(Default)]
@@ -115,7 +118,6 @@ fn stroke(style: Style) -> &'static str {
     match style {
         Style::Broad => "stroke=\"#999\" stroke-width=\"3.2\"",
         Style::Dashed => "stroke=\"#000\" stroke-width=\"1.4\" stroke-dasharray=\"5 3\"",
-        Style::Limit => "stroke=\"#000\" stroke-width=\"1\" stroke-dasharray=\"9 2 2 2\"",
         Style::Guide => "stroke=\"#000\" stroke-width=\"0.8\" stroke-dasharray=\"1.5 2\"",
         Style::Plain | Style::Filled | Style::Hollow => "stroke=\"#000\" stroke-width=\"1.6\"",
     }

@@ -120,7 +120,7 @@ fn a_small_picture_says_why_there_is_no_cycle() {
         assert!(!picture.contains(">cycle<"), "{picture}");
     };
     told("lists A and B", ">Accepted, 0 cycles.<");
-    told("lists A and B\nremark", ">Accepted, 0 cycles.<");
+    told("lists A and B\nlog\nremark", ">Accepted, 0 cycles.<");
     told(
         "lists A and B\nboth 0 off",
         ">Accepted, 1 cycle: none from 3 on.<",
@@ -129,7 +129,7 @@ fn a_small_picture_says_why_there_is_no_cycle() {
         "list A\n 3 = highest+1",
         ">refused 4 10 A: datum out of range.<",
     );
-    told("lists A and B\nend", ">refused 6 0 L: log over");
+    told("lists A and B\nlog\nend", ">refused 6 0 L: log over");
 }
 
 #[test]
@@ -164,7 +164,7 @@ fn lanes_in_which_nothing_happens_are_left_out() {
         lanes(cams),
         ["position", "speed, A and B", "signals, A and B"]
     );
-    let one = "lists A and B\n 26 = 100\nA 0 off, B 5 off\nA 0 bit 2, B 5 off";
+    let one = "lists A and B\n 26 = 100\n 28 = 1\nA 0 off, B 5 off\nA 0 bit 2, B 5 off";
     let lanes_of_one = lanes(one);
     assert!(lanes_of_one.contains(&"stop, A".into()), "{lanes_of_one:?}");
     assert!(

@@ -2,6 +2,7 @@
 
 use super::lanes::{Cells, Curve, Lane, Row, Scale, Shows, Style};
 use super::svg::{room, Anchor, Canvas, LETTERS, TITLE, WIDTH};
+use std::ops::Range;
 
 /// The room on the left for names and labels.
 const LEFT: f64 = 184.0;
@@ -313,8 +314,8 @@ impl Frame {
         path
     }
 
-    /// A curve's values, each where it begins and if it has room there: above the line, or
-    /// below it where another curve runs above.
+    /// A curve's values, each where it begins and if its run is long enough: above the line,
+    /// or below it where only there no other curve is in the way.
     fn labels(&self, canvas: &mut Canvas, columns: &Columns, curve: &Curve, others: &[&Curve]) {
         for (start, length, value) in runs(&curve.values) {
             let Some(value) = value else { continue };
@@ -323,18 +324,30 @@ impl Frame {
             if length as f64 * columns.width < wanted {
                 continue;
             }
-            let covered = start..start + (wanted / columns.width).ceil() as usize;
-            let beside = |other: &&Curve| other.values.get(covered.clone()).map(<[_]>::to_vec);
-            let beside: Vec<i64> = others
-                .iter()
-                .filter_map(beside)
-                .flatten()
-                .flatten()
-                .collect();
-            let below = beside.iter().any(|&other| other > value);
-            let y = self.y(value) + if below { LETTERS } else { -3.0 };
-            canvas.text_over_lines(columns.x(start) + 3.0, y, Anchor::Start, &label);
+            let y = self.y(value);
+            let end = start + (wanted / columns.width).ceil() as usize;
+            let free = |base: f64| {
+                let clear = |other: &&Curve| self.clear(&other.values, start..end, base);
+                others.iter().all(clear)
+            };
+            let (above, below) = (y - 3.0, y + LETTERS);
+            let base = if free(above) || !free(below) {
+                above
+            } else {
+                below
+            };
+            canvas.text_over_lines(columns.x(start) + 3.0, base, Anchor::Start, &label);
         }
+    }
+
+    /// Whether a curve leaves letters on this base line alone in some columns.
+    fn clear(&self, values: &[Option<i64>], columns: Range<usize>, base: f64) -> bool {
+        let end = columns.end.min(values.len());
+        let there = values.get(columns.start..end).unwrap_or_default();
+        let heights = || there.iter().flatten().map(|&value| self.y(value));
+        let highest = heights().fold(f64::INFINITY, f64::min);
+        let lowest = heights().fold(f64::NEG_INFINITY, f64::max);
+        lowest < base - 1.1 * LETTERS || highest > base + 0.5
     }
 
     /// A value as people read it.

@@ -347,7 +347,7 @@ impl Frame {
         let heights = || there.iter().flatten().map(|&value| self.y(value));
         let highest = heights().fold(f64::INFINITY, f64::min);
         let lowest = heights().fold(f64::NEG_INFINITY, f64::max);
-        lowest < base - 1.1 * LETTERS || highest > base + 0.5
+        lowest < base - 0.95 * LETTERS || highest > base + 0.5
     }
 
     /// A value as people read it.

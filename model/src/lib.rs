@@ -36,6 +36,9 @@ pub mod deviation;
 // Kits as people write them.
 pub mod kit;
 
+// Kits as timing pictures.
+pub mod plot;
+
 // Kits that were chosen.
 pub mod conformance;
 

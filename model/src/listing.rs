@@ -3,7 +3,7 @@
 use crate::channel::Channel;
 use crate::deviation::{paper, Deviant, Deviation, Paper, Reading};
 use crate::list::{self, Refusal};
-use crate::log;
+use crate::log::{self, Record};
 
 /// "at most 65,536 bytes in whole words"
 pub const LARGEST: usize = 65_536;
@@ -94,6 +94,26 @@ fn run_as<R: Reading>(r: R, words: &[u32], output: &mut [u32]) -> Result<usize, 
             part: Part::L,
         }
     })
+}
+
+/// An accepted kit: both channels fresh, and the records of its log.
+#[derive(Clone, Debug, PartialEq, Eq)]
+pub struct Accepted {
+    pub a: Channel,
+    pub b: Channel,
+    pub records: Vec<Record>,
+}
+
+/// A kit's parts, for a look at its run.
+pub fn accept(kit: &[u8]) -> Result<Accepted, Refused> {
+    let words = words(Paper, kit)?;
+    let (a, b, log) = parts(Paper, &words)?;
+    log::check(log).map_err(|refusal| Refused {
+        refusal,
+        part: Part::L,
+    })?;
+    let records = log::records(log).collect();
+    Ok(Accepted { a, b, records })
 }
 
 /// "at most 65,536 bytes in whole words, else number 6, place 0, L"

@@ -1,6 +1,6 @@
 //! The log: cycle records, checked as a whole and then run.
 
-use crate::channel::Channel;
+use crate::channel::{Channel, Cycle};
 use crate::deviation::{paper, Paper, Reading};
 use crate::list::Refusal;
 use crate::{device, words};
@@ -124,6 +124,14 @@ pub fn records(log: &[u32]) -> impl Iterator<Item = Record> + '_ {
 /// "each cycle puts A's word, B's word and the device word into the output"
 #[inline]
 fn cycle<R: Reading>(r: R, a: &mut Channel, b: &mut Channel, record: Record) -> [u32; 3] {
+    let (of_a, of_b) = both(r, a, b, record);
+    let device = device::word_as(r, of_a.word, of_b.word);
+    [of_a.word, of_b.word, device]
+}
+
+/// A record's cycle of both channels.
+#[inline]
+pub fn both<R: Reading>(r: R, a: &mut Channel, b: &mut Channel, record: Record) -> (Cycle, Cycle) {
     let Record {
         a: of_a,
         b: of_b,
@@ -139,10 +147,10 @@ fn cycle<R: Reading>(r: R, a: &mut Channel, b: &mut Channel, record: Record) -> 
     let (to_a, to_b) = paper!(r, (acknowledged, acknowledged),
         AcknowledgesOnlyA => (acknowledged, false),
         AcknowledgesOnlyB => (false, acknowledged));
-    let word_a = a.cycle_as(r, of_a.position, of_a.inputs, to_a, from_b).word;
+    let cycle_a = a.cycle_as(r, of_a.position, of_a.inputs, to_a, from_b);
     paper!(r, (), BSeesNewK => from_a = a.report(of_a.position, of_a.inputs));
-    let word_b = b.cycle_as(r, of_b.position, of_b.inputs, to_b, from_a).word;
-    [word_a, word_b, device::word_as(r, word_a, word_b)]
+    let cycle_b = b.cycle_as(r, of_b.position, of_b.inputs, to_b, from_a);
+    (cycle_a, cycle_b)
 }
 
 /// "A word between records that is a remark is passed over, also before the first and after the last."

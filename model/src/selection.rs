@@ -76,7 +76,7 @@ impl Selection {
 
     /// "Order: nothing, SG by limit × percent, SBH strictest.": the less, the stricter.
     #[inline]
-    fn leeway<R: Reading>(self, r: R, data: &MachineData) -> i64 {
+    pub fn leeway<R: Reading>(self, r: R, data: &MachineData) -> i64 {
         match self {
             Selection::Nothing => paper!(r, i64::MAX,
                 NothingStrictest => -1),

@@ -1,5 +1,6 @@
 //! `kit`: from the text form of a kit to its bytes, back again, and to the model's listing.
 
+use model::plot::{self, Range};
 use model::{conformance, kit, listing, Deviation};
 use std::io::{Read, Write};
 use std::path::Path;
@@ -9,6 +10,8 @@ const USAGE: &str = "kit assemble FILE   a kit's text to its bytes
 kit show FILE       a kit's bytes to text
 kit list FILE       the model's listing of a kit
 kit tell FILE       the deviations that a kit tells from document 01
+kit plot FILE [FROM TO]
+                    a timing picture of a kit's cycles, as SVG; FILE may be a text, NAME.txt
 kit power KITS      for each deviation the kits of a folder that tell it
 kit conformance KITS CRATE
                     a folder's kits to data/, args and stdout of a crate's folder
@@ -25,6 +28,8 @@ fn main() -> ExitCode {
         ["show", file] => read(file).map(|bytes| kit::show(&bytes).into_bytes()),
         ["list", file] => read(file).map(|bytes| listing::list(&bytes).into_bytes()),
         ["tell", file] => read(file).map(|bytes| tell(&bytes).into_bytes()),
+        ["plot", file] => plot(file, Range::default()),
+        ["plot", file, from, to] => range(from, to).and_then(|range| plot(file, range)),
         ["power", kits] => power(kits),
         ["conformance", kits, folder] => make_conformance(kits, folder),
         _ => Err(USAGE.into()),
@@ -57,6 +62,20 @@ fn write(bytes: &[u8]) -> Result<(), String> {
 fn assemble(file: &str, bytes: &[u8]) -> Result<Vec<u8>, String> {
     let assembled = kit::text(bytes).and_then(kit::assemble);
     assembled.map_err(|fault| format!("{file}: {fault}"))
+}
+
+fn plot(file: &str, range: Range) -> Result<Vec<u8>, String> {
+    let picture = plot::file(file, &read(file)?, range);
+    let picture = picture.map_err(|fault| format!("{file}: {fault}"))?;
+    Ok(picture.into_bytes())
+}
+
+/// The cycles from one to another.
+fn range(from: &str, to: &str) -> Result<Range, String> {
+    let number = |text: &str| text.parse().ok();
+    let range = number(from).zip(number(to));
+    let range = range.and_then(|(from, to)| Range::new(from, to));
+    range.ok_or_else(|| format!("{from} to {to}: cycles count from 1 on, FROM up to TO"))
 }
 
 /// The files of a crate that runs a folder's kits: what was written.

@@ -204,20 +204,7 @@ impl Reached {
     fn run(&mut self, mut a: Channel, mut b: Channel, log: &[u32]) {
         for record in log::records(log) {
             let (before_a, before_b) = (a, b);
-            let from_a = a.report(record.a.position, record.a.inputs);
-            let from_b = b.report(record.b.position, record.b.inputs);
-            let of_a = a.cycle(
-                record.a.position,
-                record.a.inputs,
-                record.acknowledged,
-                from_b,
-            );
-            let of_b = b.cycle(
-                record.b.position,
-                record.b.inputs,
-                record.acknowledged,
-                from_a,
-            );
+            let (of_a, of_b) = log::both(crate::Paper, &mut a, &mut b, record);
             self.cycle(
                 &before_a,
                 &a,

@@ -18,5 +18,6 @@ unfoldable pub camsUpTo : List ℤ → ℤ → ℕ → ℕ → ℕ
 camsUpTo d position before zero = 0
 camsUpTo d position before (suc n) = camsUpTo d position before n + 2 ^ n * flag (camOf d position n (bitOf before n))
 
+-- all eight: "cam signals are still worked out" while their function is off
 abbrev pub camsNext : List ℤ → ℤ → ℕ → ℕ
 camsNext d position before = camsUpTo d position before 8

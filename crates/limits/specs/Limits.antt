@@ -29,6 +29,7 @@ overSpeed d Nothing moved = false
 overSpeed d (Sg n o) moved = tooFast d moved n o
 overSpeed d Sbh moved = false
 
+-- "rank by datum"
 abbrev pub sgRank : List ℤ → Selection → Rank
 sgRank d Nothing = R.None
 sgRank d (Sg n o) = rankFrom (numberOf d (7 + n % 4))
@@ -42,7 +43,7 @@ beyond d position k = ltZ position (datumOf d k) || ltZ (datumOf d (k + 1)) posi
 unfoldable pub outside : List ℤ → Reading → Bool
 outside d r = functionOf d 1 && beyond d (r .position) (cond (bitOf (r .inputs) 12) 13 11)
 
--- "5, 6, 7, 8 external A, C, D, E, its input bit 0"
+-- "5, 6, 7, 8 external A, C, D, E, its input bit 0"; "4 to 8 need their function on"
 unfoldable pub external : List ℤ → ℕ → ℕ → Bool
 external d w n = functionOf d 4 && not (bitOf w n)
 

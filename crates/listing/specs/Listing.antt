@@ -39,7 +39,7 @@ linesFrom cycle [] = []
 linesFrom cycle (a ∷ []) = []
 linesFrom cycle (a ∷ b ∷ []) = []
 
--- the log's text: "the cycle from 1", or its refusal
+-- the log's text: "the cycle from 1", or its refusal. A kit's log is never over 16,384 words, and the bench has room for it, so there is no 7
 abbrev pub byLog : MachineData → MachineData → LogRead → List ℕ
 byLog a b (records rs) = linesFrom 1 (linesOf (a .values) (b .values) (bothOf (freshChannel a) (freshChannel b)) rs)
 byLog a b (fault place) = refusal 6 place (letterOf P.the-variants.Log)

@@ -14,7 +14,7 @@ use Rattle.machine_data.specs.Table.{lowOf, highOf, inRange}
 unfoldable pub nearest : ℤ → ℤ → ℤ → ℤ
 nearest low high z = cond (ltZ z low) low (cond (ltZ high z) high z)
 
--- datum k of the values d; 0 where there is none
+-- datum k of the values d, within its range; 0 where there is none
 unfoldable pub datumOf : List ℤ → ℕ → ℤ
 datumOf d k = cond (ltb k 51) (nearest (lowOf k) (highOf k) (getD d k (pos 0))) (pos 0)
 

@@ -13,7 +13,7 @@ unfoldable pub digits : ℕ → ℕ → ℕ → List ℕ
 digits base zero n = []
 digits base (suc many) n = digits base many (n / base) ++ (glyph (n % base) ∷ [])
 
--- how many digits a number has, one more than the number less its last digit has; at most so many and one
+-- how many digits a number has: 1 below the base, else one more than n / base has; `most` bounds the recursion
 unfoldable pub widthWithin : ℕ → ℕ → ℕ → ℕ
 widthWithin base zero n = 1
 widthWithin base (suc most) n = cond (ltb n base) 1 (suc (widthWithin base most (n / base)))

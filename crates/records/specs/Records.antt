@@ -67,7 +67,7 @@ logFrom zero s at = records []
 logFrom (suc n) s at =
     cond (ltb at (length s)) (onEntry (entryAt s at) (λ r. before r (logFrom n s (at + 7))) (logFrom n s (at + 1))) (records [])
 
--- a log has no more entries than words
+-- "An empty log is accepted"; a log has no more entries than words
 abbrev pub logOf : List ℕ → LogRead
 logOf s = logFrom (length s) s 0
 

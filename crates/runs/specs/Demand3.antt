@@ -100,6 +100,7 @@ module _ (d : List ℤ) (cs : ℕ → Given) where
   abbrev pub Clears : ℕ → Type 0
   Clears n = T (clearsIn d (history d cs n) (cs n))
 
+  -- "Until one after cycle n clears"
   abbrev pub Uncleared : ℕ → ℕ → Type 0
   Uncleared n m = (i : ℕ) → n < i → i ≤ m → Clears i → ⊥
 

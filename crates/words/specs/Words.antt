@@ -33,6 +33,6 @@ byKind k v =
 unfoldable pub wordOf : ℕ → Word
 wordOf w = byKind (w / 268435456) (w % 268435456)
 
--- the word at a place; behind the last one none of the format stands
+-- the word at a place; "a missing word has the place behind the last one", and reads as no word of the format
 unfoldable pub wordAt : List ℕ → ℕ → Word
 wordAt s at = cond (ltb at (length s)) (wordOf (getD s at 0)) Other

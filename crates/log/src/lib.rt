@@ -65,8 +65,8 @@ fn turn_of<'a>(ma: &'a [i32; 51], mb: &'a [i32; 51], both: Both, r: CycleRecord)
     let sb = both.b;
     let ra = r.a;
     let rb = r.b;
-    let a = channel::step(ma, sa, given(mb, sb, ra, rb, r.acknowledged));
-    let b = channel::step(mb, sb, given(ma, sa, rb, ra, r.acknowledged));
+    let a = channel::advance(ma, sa, given(mb, sb, ra, rb, r.acknowledged));
+    let b = channel::advance(mb, sb, given(ma, sa, rb, ra, r.acknowledged));
     let na = a.state;
     let nb = b.state;
     Turn {

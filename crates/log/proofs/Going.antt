@@ -1,14 +1,16 @@
 -- The run of an accepted log, entry by entry: what is left to run gives, from here, what the whole log gives. Assumes nothing.
 use mathlib.Core.Path.{_≡_, refl, sym, ap, _∙_, subst}
 use mathlib.Core.List.{List, [], _∷_, _++_, append-assoc, append-nil}
-use Prim.Native.Nat.{ℕ, _+_, _*_, _≤_, _<_}
+use Prim.Native.Nat.{ℕ, _+_, _*_, _/_, _≤_, _<_}
 use native.Mathlib.Omega.{arith}
-use lib.ListN.{length, take, drop, take-append-drop}
+use lib.ListN.{length, getD, take, drop, take-append-drop}
 use lib.Seq.{drop-drop}
 use lib.IntN.{ℤ}
 use Rattle.records.specs.declared.CycleRecord.{CycleRecord}
 use Rattle.records.specs.declared.Entry as E
 use Rattle.records.specs.Records.{entryAt, LogRead, records, fault, before, logOf}
+use Rattle.records.specs.Seven.{recordFrom}
+use Rattle.records.proofs.Seven.{record-kind, remark-kind, holds}
 use Rattle.records.proofs.Scanning.{Rest, at-record, at-remark, at-bad, at-end}
 use Rattle.log.specs.declared.Both.{Both}
 use Rattle.log.specs.declared.Turn.{Turn}
@@ -69,6 +71,23 @@ module _ (da db : List ℤ) (x₀ : Both) (words out₀ : List ℕ) where
       where
         apart : {X : Type 0} → fault place ≡ records (g .rest) → X
         apart q = never (cc)
+
+    -- what stands here, by its first word's kind
+    pub record-here : at < length words → getD words at 0 / 268435456 ≡ 4 → entryAt words at ≡ E.the-variants.Record (recordFrom words at)
+    record-here h k = go (entryAt words at) refl
+      where
+        go : (x : E.Entry) → entryAt words at ≡ x → entryAt words at ≡ E.the-variants.Record (recordFrom words at)
+        go (E.the-variants.Record r) e = e ∙ ap E.the-variants.Record (sym (holds words at r e))
+        go E.the-variants.Remark e = absurd (omega (arith, k, remark-kind words at e))
+        go (E.the-variants.Bad place) e = no-fault h e
+
+    pub remark-here : at < length words → (getD words at 0 / 268435456 ≡ 4 → ⊥) → entryAt words at ≡ E.the-variants.Remark
+    remark-here h k = go (entryAt words at) refl
+      where
+        go : (x : E.Entry) → entryAt words at ≡ x → entryAt words at ≡ E.the-variants.Remark
+        go (E.the-variants.Record r) e = absurd (k (record-kind words at r e))
+        go E.the-variants.Remark e = e
+        go (E.the-variants.Bad place) e = no-fault h e
 
     next-record : (r : CycleRecord) → at < length words → entryAt words at ≡ E.the-variants.Record r → (rs : List CycleRecord) × (g .rest ≡ r ∷ rs) × Rest words (at + 7) (records rs)
     next-record r h e = let a = at-record words at (records (g .rest)) r h e (g .left) in go (a .0) (a .1) (a .2)

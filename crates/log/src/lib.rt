@@ -3,6 +3,7 @@ ghost use mathlib.Core.Path.{_≡_};
 ghost use Prim.Native.Nat.{_+_, _≤_, _*_};
 ghost use mathlib.Core.List.{_∷_, _++_};
 ghost use lib.ListN.{length, take, drop};
+ghost use Rattle.records.specs.Seven.{recordFrom};
 ghost use Rattle.log.specs.Run.{givenBy, turnOf};
 ghost use Rattle.log.specs.Ensures.{LogEnsures, refusedRun, Enough, Sound, Runs};
 use channel::Channel;
@@ -10,7 +11,6 @@ use channel::Given;
 use channel::State;
 use inputs::Reading;
 use records::CycleRecord;
-use records::Entry;
 use records::Scan;
 
 pub enum LogAnswer {
@@ -77,6 +77,18 @@ fn turn_of<'a>(ma: &'a [i32; 51], mb: &'a [i32; 51], both: Both, r: CycleRecord)
     }
 }
 
+// The record at a place where one stands.
+fn record_at(words: &[u32], at: usize) -> CycleRecord
+    requires { ⌜ at + 7 ≤ length (now words) ⌝ }
+    ensures { λ r. ⌜ r ≡ recordFrom (now (words .entry)) at ⌝ }
+{
+    CycleRecord {
+        a: records::reading_of(words[at], words[at + 1], words[at + 2]),
+        b: records::reading_of(words[at + 3], words[at + 4], words[at + 5]),
+        acknowledged: words[at + 6] % 2 == 1,
+    }
+}
+
 // A cycle's three words, from a place of the output on.
 fn put(out: &mut [u32], at: usize, a: u32, b: u32, device: u32)
     requires { ⌜ at + 3 ≤ length (now out) ⌝ }
@@ -87,7 +99,7 @@ fn put(out: &mut [u32], at: usize, a: u32, b: u32, device: u32)
     out[at + 2] = device;
 }
 
-// The records of an accepted log, run one by one.
+// The records of an accepted log, run one by one: what begins with a position is a record, and all else a remark.
 fn run_records<'a>(
     ma: &'a [i32; 51],
     mb: &'a [i32; 51],
@@ -102,22 +114,15 @@ fn run_records<'a>(
     let mut at = 0usize;
     let mut next = 0usize;
     while at < words.len() {
-        let entry = records::entry_at(words, at);
-        match entry {
-            Entry::Record(r) => {
-                let t = turn_of(ma, mb, now, r);
-                put(out, next, t.a, t.b, t.device);
-                let after = t.both;
-                now = after;
-                at += 7;
-                next += 3;
-            }
-            Entry::Remark => {
-                at += 1;
-            }
-            Entry::Bad(_) => {
-                return now;
-            }
+        if words[at] / 268435456 == 4 {
+            let t = turn_of(ma, mb, now, record_at(words, at));
+            put(out, next, t.a, t.b, t.device);
+            let after = t.both;
+            now = after;
+            at += 7;
+            next += 3;
+        } else {
+            at += 1;
         }
     }
     now

@@ -1,6 +1,6 @@
 -- The table of causes 2 to 13, by what a usable cycle finds: document 01, step 4.
 use Prim.Native.Nat.{ℕ}
-use mathlib.Core.Bool.{Bool}
+use mathlib.Core.Bool.{Bool, false, _||_}
 use mathlib.Core.List.{List, [], _∷_, _++_}
 use Rattle.stop.specs.declared.Rank.{Rank}
 use Rattle.stop.specs.declared.Rank.the-variants as R
@@ -30,3 +30,10 @@ comparedRows f =
 
 abbrev pub rowsBy : Found → List Cause
 rowsBy f = limitRows f ++ externalRows f ++ comparedRows f
+
+-- whether any of them stands
+unfoldable pub anyIn : Found → Bool
+anyIn f =
+    (f .standstill || f .speeding || f .outside)
+    || ((f .a || f .c || f .d) || f .e || f .slipped)
+    || ((f .position || f .inputs || f .datum) || f .expired || false)

@@ -6,6 +6,12 @@ use native.Mathlib.Omega.{arith}
 use lib.ListN.{length, getD, take, drop, take-append-drop}
 use lib.Seq.{drop-drop}
 use lib.IntN.{ℤ}
+use Rattle.channel.specs.declared.Given.{Given}
+use Rattle.channel.specs.declared.Advanced.{Advanced}
+use Rattle.channel.specs.Cycle.{next}
+use Rattle.channel.specs.Word.{word}
+use Rattle.channel.specs.Ensures.{AdvanceEnsures}
+use Rattle.device.specs.Device.{deviceOf}
 use Rattle.records.specs.declared.CycleRecord.{CycleRecord}
 use Rattle.records.specs.declared.Entry as E
 use Rattle.records.specs.Records.{entryAt, LogRead, records, fault, before, logOf}
@@ -13,8 +19,7 @@ use Rattle.records.specs.Seven.{recordFrom}
 use Rattle.records.proofs.Seven.{record-kind, remark-kind, holds}
 use Rattle.records.proofs.Scanning.{Rest, at-record, at-remark, at-bad, at-end}
 use Rattle.log.specs.declared.Both.{Both}
-use Rattle.log.specs.declared.Turn.{Turn}
-use Rattle.log.specs.Run.{turnOf, lineOf, lastOf, linesOf}
+use Rattle.log.specs.Run.{givenA, givenB, Turn, turnOf, lineOf, lastOf, linesOf}
 use Rattle.log.specs.Ensures.{Enough, Runs}
 use Rattle.log.proofs.Output.{taken, dropped, kept-length}
 
@@ -23,6 +28,18 @@ never z = absurd (go z)
   where
     go : _≡_ {A = ℕ} 0 1 → ⊥
     go y = omega arith
+
+-- both channels' cycles and their device word are a turn
+pub turned : (da db : List ℤ) (x : Both) (r : CycleRecord) (ga gb : Given) (ta tb : Advanced) (w : ℕ) → ga ≡ givenA da db x r → gb ≡ givenB da db x r →
+    AdvanceEnsures da (x .a) ga ta → AdvanceEnsures db (x .b) gb tb → w ≡ deviceOf (ta .word) (tb .word) →
+    record { both = record { a = ta .state; b = tb .state }; a = ta .word; b = tb .word; device = w } ≡ turnOf da db x r
+unfolding turnOf
+turned da db x r ga gb ta tb w ea eb ha hb hw =
+    let wa = ha .word-is ∙ ap (word da (x .a)) ea in
+    let wb = hb .word-is ∙ ap (word db (x .b)) eb in
+    let sa = ha .state ∙ ap (next da (x .a)) ea in
+    let sb = hb .state ∙ ap (next db (x .b)) eb in
+    λ i. record { both = record { a = sa i; b = sb i }; a = wa i; b = wb i; device = (hw ∙ (λ j. deviceOf (wa j) (wb j))) i }
 
 -- at a place of the words and of the output, with the states x there
 pub record Going (da db : List ℤ) (x₀ : Both) (words out₀ out : List ℕ) (x : Both) (at next : ℕ) : Type 0 where

@@ -7,7 +7,7 @@ use inputs::Reading;
 fn cam(machine: &[i32; 51], reading: Reading, n: usize, before: bool) -> bool
     ensures { λ r. ⌜ r ≡ camOf (now (machine .entry)) (reading .position) n before ⌝ }
 {
-    let edge = machine_data::datum(machine, 16 + n % 8) as i64;
+    let edge = machine_data::cam_edge(machine, n) as i64;
     let tolerance = machine_data::datum(machine, 24) as i64;
     let position = reading.position as i64;
     if edge + tolerance < position {

@@ -20,9 +20,18 @@ noCauses = record { codes = replicate 13 0; count = 0 }
 unfoldable pub pushed : ℕ → Causes → Causes
 pushed code cs = cond (ltb (cs .count) 13) (record { codes = set (cs .codes) (cs .count) code; count = cs .count + 1 }) cs
 
+-- the code of one cause more, where it stands
+unfoldable pub listTo : Cause → Causes → Causes
+listTo c cs = cond (c .stands) (pushed (c .code) cs) cs
+
+-- the codes of a table's causes, one behind the other
+abbrev pub listed : List Cause → Causes → Causes
+listed [] cs = cs
+listed (c ∷ rows) cs = listed rows (listTo c cs)
+
 -- a tally before any cause
 abbrev pub noTally : Tally
-noTally = record { causes = noCauses; strongest = None; fresh = false }
+noTally = record { strongest = None; fresh = false }
 
 -- "All but 13 are fresh"
 abbrev pub isFresh : Cause → Bool
@@ -32,7 +41,7 @@ isFresh c = c .stands && not (eqb (c .code) 13)
 unfoldable pub addTo : Cause → Tally → Tally
 addTo c t =
     cond (c .stands)
-    (record { causes = pushed (c .code) (t .causes); strongest = strongerOf (t .strongest) (c .rank); fresh = t .fresh || not (eqb (c .code) 13) })
+    (record { strongest = strongerOf (t .strongest) (c .rank); fresh = t .fresh || not (eqb (c .code) 13) })
     t
 
 -- the causes of a table, one behind the other

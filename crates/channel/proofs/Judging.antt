@@ -11,12 +11,13 @@ use Rattle.inputs.specs.Inputs.{usableOf}
 use Rattle.speed.specs.Speed.{slower}
 use Rattle.stop.specs.declared.Rank.the-variants.{A}
 use Rattle.causes.specs.declared.Cause.{Cause}
-use Rattle.causes.specs.Causes.{noTally, tallied, strongestOf, freshOf}
+use Rattle.causes.specs.Causes.{noCauses, pushed, listTo, listed, noTally, tallied, strongestOf, freshOf}
+use Rattle.causes.specs.Table.{cause}
 use Rattle.causes.specs.Listed.{Lists}
-use Rattle.causes.proofs.Laws.{tallied-strongest, tallied-fresh, tallied-lists}
+use Rattle.causes.proofs.Laws.{tallied-strongest, tallied-fresh, lists}
 use Rattle.channel.specs.declared.State.{State}
 use Rattle.channel.specs.declared.Given.{Given}
-use Rattle.channel.specs.Causes.{cause, movedOf, usableRows, rowsOf, judgedOf}
+use Rattle.channel.specs.Causes.{movedOf, usableRows, rowsOf, judgedOf}
 use Rattle.channel.specs.Cycle.{strongestIn, clearsIn, usableNext, unusableNext, steppedOf, next}
 use Rattle.channel.specs.Word.{wordOf, word}
 
@@ -47,15 +48,15 @@ module _ (d : List ℤ) (s : State) (g : Given) where
     strongest-is = tallied-strongest (usableRows d s g) ∙ ap strongestOf (sym rows-are)
 
     pub stepped-next : steppedOf d s g (judgedOf d s g) ≡ next d s g
-    unfolding judgedOf next
+    unfolding judgedOf usableRows next
     stepped-next = (λ i. usableNext d s g (clears-is i) (strongest-is i)) ∙ sym (simp usable)
 
     pub usable-word : wordOf d (next d s g) (slower d (movedOf (s .previous) (g .reading .position)) 25) ≡ word d s g
     unfolding word
     usable-word = sym (simp usable)
 
-    pub usable-lists : Lists (rowsOf d s g) (tallied (usableRows d s g) noTally .causes)
-    usable-lists = subst (λ (rows : List Cause). Lists rows (tallied (usableRows d s g) noTally .causes)) (sym rows-are) (tallied-lists (usableRows d s g) (few d s g))
+    pub usable-lists : Lists (rowsOf d s g) (listed (usableRows d s g) noCauses)
+    usable-lists = subst (λ (rows : List Cause). Lists rows (listed (usableRows d s g) noCauses)) (sym rows-are) (lists (usableRows d s g) (few d s g))
 
   module _ (unusable : usableOf (g .reading) ≡ false) where
     pub unusable-next : unusableNext s ≡ next d s g
@@ -66,6 +67,6 @@ module _ (d : List ℤ) (s : State) (g : Given) where
     unfolding word
     unusable-word = sym (simp unusable)
 
-    pub unusable-lists : Lists (rowsOf d s g) (tallied (cause 1 true A ∷ []) noTally .causes)
-    unfolding rowsOf
-    unusable-lists = simp unusable (tallied-lists (cause 1 true A ∷ []) (omega arith))
+    pub unusable-lists : Lists (rowsOf d s g) (pushed 1 noCauses)
+    unfolding rowsOf listTo
+    unusable-lists = simp unusable (lists (cause 1 true A ∷ []) (omega arith))

@@ -16,7 +16,9 @@ use Rattle.stop.specs.declared.Stop.the-variants.{Free, Cancelled}
 use Rattle.stop.specs.Stop.{stopNext, entersOf}
 use Rattle.comparison.specs.declared.Fault.{Fault}
 use Rattle.cams.specs.Cams.{camsNext}
-use Rattle.causes.specs.Causes.{strongestOf, freshOf}
+use Rattle.causes.specs.declared.Tally.{Tally}
+use Rattle.causes.specs.Causes.{noTally, tallied, strongestOf, freshOf}
+use Rattle.causes.specs.Table.{rowsBy}
 use Rattle.channel.specs.declared.Previous.the-variants.{Nowhere, At}
 use Rattle.machine_data.specs.declared.MachineData.{MachineData}
 use Rattle.channel.specs.declared.Channel.{Channel}
@@ -92,6 +94,10 @@ usableNext d s g clears strongest =
       cams = camsNext d (g .reading .position) (s .cams);
     }
 
+-- the tally of what was judged
+abbrev pub tallyOf : Judged → Tally
+tallyOf j = tallied (rowsBy (j .found)) noTally
+
 -- the same from what was judged
 abbrev pub steppedOf : List ℤ → State → Given → Judged → State
 steppedOf d s g j =
@@ -100,8 +106,8 @@ steppedOf d s g j =
       previous = At (g .reading .position);
       choice = j .choice;
       differing = j .differing;
-      fault = clearedFault (g .acknowledged && not (j .tally .fresh)) (j .fault);
-      stop = stopNext d (g .acknowledged && not (j .tally .fresh)) (j .tally .strongest) (slower d (j .moved) 33) (g .reading .position) (s .stop);
+      fault = clearedFault (g .acknowledged && not (tallyOf j .fresh)) (j .fault);
+      stop = stopNext d (g .acknowledged && not (tallyOf j .fresh)) (tallyOf j .strongest) (slower d (j .moved) 33) (g .reading .position) (s .stop);
       cams = camsNext d (g .reading .position) (s .cams);
     }
 

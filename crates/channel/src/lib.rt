@@ -1,14 +1,13 @@
 // One cycle of a channel, steps 1 to 6, and its channel word.
 ghost use mathlib.Core.Path.{_≡_};
 ghost use mathlib.Core.Bool.{not, _&&_, _||_};
-ghost use Rattle.causes.specs.Causes.{noTally, tallied};
-ghost use Rattle.channel.specs.Causes.{movedOf, limitRows, externalRows, comparedBy, judgedOf};
+ghost use Rattle.causes.specs.Listed.{Lists};
+ghost use Rattle.channel.specs.Causes.{movedOf, foundBy, judgedOf, rowsOf};
 ghost use Rattle.channel.specs.Cycle.{freshChannel, reportOf, nextK, clearedFault, steppedOf, unusableNext};
 ghost use Rattle.channel.specs.Word.{wordOf};
-ghost use Rattle.channel.specs.Ensures.{StepEnsures, CycleEnsures};
-use causes::Cause;
+ghost use Rattle.channel.specs.Ensures.{AdvanceEnsures, StepEnsures, CycleEnsures};
 use causes::Causes;
-use causes::Tally;
+use causes::Found;
 use comparison::Fault;
 use inputs::Reading;
 use inputs::Report;
@@ -49,13 +48,19 @@ pub struct Given {
     pub report: Report,
 }
 
-// What steps 2 to 4 find.
+// What steps 2 to 4 come to.
 pub struct Judged {
     pub moved: u32,
     pub choice: Choice,
     pub differing: u64,
     pub fault: Fault,
-    pub tally: Tally,
+    pub found: Found,
+}
+
+// What a cycle gives without its causes: the state after it, and its word.
+pub struct Advanced {
+    pub state: State,
+    pub word: u32,
 }
 
 // What a cycle gives: the state after it, its word and its causes.
@@ -81,90 +86,6 @@ fn moved(previous: Previous, reading: Reading) -> u32
     }
 }
 
-fn limit_tally(machine: &[i32; 51], choice: Choice, reading: Reading, moved: u32) -> Tally
-    ensures { λ r. ⌜ r ≡ tallied (limitRows (now (machine .entry)) choice reading moved) noTally ⌝ }
-{
-    let effective = choice.effective;
-    let a = Tally::new().add(Cause {
-        code: 2,
-        stands: limits::standstill(machine, choice, reading),
-        rank: Rank::B,
-    });
-    let b = a.add(Cause {
-        code: 3,
-        stands: limits::over_speed(machine, effective, moved),
-        rank: limits::sg_rank(machine, effective),
-    });
-    b.add(Cause {
-        code: 4,
-        stands: limits::outside(machine, reading),
-        rank: Rank::from_number(machine_data::number(machine, 15)),
-    })
-}
-
-fn externals(before: Tally, machine: &[i32; 51], reading: Reading) -> Tally
-    ensures { λ r. ⌜ r ≡ tallied (externalRows (now (machine .entry)) (reading .inputs)) before ⌝ }
-{
-    let a = before.add(Cause {
-        code: 5,
-        stands: limits::external(machine, reading, 18),
-        rank: Rank::A,
-    });
-    let c = a.add(Cause {
-        code: 6,
-        stands: limits::external(machine, reading, 19),
-        rank: Rank::C,
-    });
-    let d = c.add(Cause {
-        code: 7,
-        stands: limits::external(machine, reading, 20),
-        rank: Rank::D,
-    });
-    d.add(Cause {
-        code: 8,
-        stands: limits::external(machine, reading, 21),
-        rank: Rank::E,
-    })
-}
-
-// Causes 9 to 13 by whether each stands.
-fn compared(
-    before: Tally,
-    slipped: bool,
-    position: bool,
-    inputs: bool,
-    datum: bool,
-    expired: bool,
-) -> Tally
-    ensures { λ r. ⌜ r ≡ tallied (comparedBy slipped position inputs datum expired) before ⌝ }
-{
-    let a = before.add(Cause {
-        code: 9,
-        stands: slipped,
-        rank: Rank::B,
-    });
-    let b = a.add(Cause {
-        code: 10,
-        stands: position,
-        rank: Rank::None,
-    });
-    let c = b.add(Cause {
-        code: 11,
-        stands: inputs,
-        rank: Rank::None,
-    });
-    let d = c.add(Cause {
-        code: 12,
-        stands: datum,
-        rank: Rank::None,
-    });
-    d.add(Cause {
-        code: 13,
-        stands: expired,
-        rank: Rank::B,
-    })
-}
-
 fn any_of(a: bool, b: bool, c: bool) -> bool
     ensures { λ r. ⌜ r ≡ (a || b || c) ⌝ }
 {
@@ -174,6 +95,39 @@ fn any_of(a: bool, b: bool, c: bool) -> bool
         true
     } else {
         c
+    }
+}
+
+// What stands in a usable cycle: the limits by what is effective, and what the comparison found.
+fn found(
+    machine: &[i32; 51],
+    stop: Stop,
+    reading: Reading,
+    choice: Choice,
+    moved: u32,
+    position: bool,
+    inputs: bool,
+    datum: bool,
+    expired: bool,
+) -> Found
+    ensures { λ r. ⌜ r ≡ foundBy (now (machine .entry)) stop reading choice moved position inputs datum expired ⌝ }
+{
+    let effective = choice.effective;
+    Found {
+        standstill: limits::standstill(machine, choice, reading),
+        speeding: limits::over_speed(machine, effective, moved),
+        outside: limits::outside(machine, reading),
+        a: limits::external(machine, reading, 18),
+        c: limits::external(machine, reading, 19),
+        d: limits::external(machine, reading, 20),
+        e: limits::external(machine, reading, 21),
+        slipped: limits::slipped(machine, stop, reading),
+        position,
+        inputs,
+        datum,
+        expired,
+        sg: limits::sg_rank(machine, effective),
+        se: Rank::from_number(machine_data::number(machine, 15)),
     }
 }
 
@@ -198,11 +152,12 @@ fn judge(machine: &[i32; 51], state: State, given: Given) -> Judged
     let inputs = comparison::inputs_differ(machine, differing);
     let datum = comparison::datum_differs(machine, state.k as usize, report);
     let after = fault.next(machine, any_of(position, inputs, datum));
-    let limited = limit_tally(machine, choice, reading, moved);
-    let external = externals(limited, machine, reading);
-    let tally = compared(
-        external,
-        limits::slipped(machine, stop, reading),
+    let found = found(
+        machine,
+        stop,
+        reading,
+        choice,
+        moved,
         position,
         inputs,
         datum,
@@ -213,7 +168,7 @@ fn judge(machine: &[i32; 51], state: State, given: Given) -> Judged
         choice,
         differing,
         fault: after,
-        tally,
+        found,
     }
 }
 
@@ -244,7 +199,8 @@ fn stepped(machine: &[i32; 51], state: State, given: Given, judged: Judged) -> S
     ensures { λ r. ⌜ r ≡ steppedOf (now (machine .entry)) state given judged ⌝ }
 {
     let reading = given.reading;
-    let tally = judged.tally;
+    let found = judged.found;
+    let tally = found.tally();
     let strongest = tally.strongest;
     let stop = state.stop;
     let fault = judged.fault;
@@ -291,34 +247,51 @@ fn word(machine: &[i32; 51], state: State, slow: bool) -> u32
     channel_word::channel_word(machine, effective, stop, fault.on, state.cams, slow)
 }
 
-// A cycle of a state beside its data.
-pub fn step(machine: &[i32; 51], state: State, given: Given) -> Outcome
-    ensures { λ r. ⌜ StepEnsures (now (machine .entry)) state given r ⌝ }
+// A cycle of a state beside its data, without its causes: what a log needs.
+pub fn advance(machine: &[i32; 51], state: State, given: Given) -> Advanced
+    ensures { λ r. ⌜ AdvanceEnsures (now (machine .entry)) state given r ⌝ }
 {
     let reading = given.reading;
     if inputs::usable(reading) {
         let judged = judge(machine, state, given);
-        let tally = judged.tally;
-        let causes = tally.causes;
         let after = stepped(machine, state, given, judged);
-        Outcome {
+        Advanced {
             state: after,
             word: word(machine, after, speed::below(machine, judged.moved, 25)),
-            causes,
         }
     } else {
-        let tally = Tally::new().add(Cause {
-            code: 1,
-            stands: true,
-            rank: Rank::A,
-        });
-        let causes = tally.causes;
         let after = unusable(state);
-        Outcome {
+        Advanced {
             state: after,
             word: word(machine, after, false),
-            causes,
         }
+    }
+}
+
+// The codes of the causes that stand in a cycle.
+fn causes(machine: &[i32; 51], state: State, given: Given) -> Causes
+    ensures { λ r. ⌜ Lists (rowsOf (now (machine .entry)) state given) r ⌝ }
+{
+    let reading = given.reading;
+    if inputs::usable(reading) {
+        let judged = judge(machine, state, given);
+        let found = judged.found;
+        found.causes()
+    } else {
+        Causes::new().push(1)
+    }
+}
+
+// A cycle of a state beside its data.
+pub fn step(machine: &[i32; 51], state: State, given: Given) -> Outcome
+    ensures { λ r. ⌜ StepEnsures (now (machine .entry)) state given r ⌝ }
+{
+    let advanced = advance(machine, state, given);
+    let after = advanced.state;
+    Outcome {
+        state: after,
+        word: advanced.word,
+        causes: causes(machine, state, given),
     }
 }
 

@@ -39,10 +39,7 @@ pub fn sg_rank(machine: &[i32; 51], effective: Selection) -> Rank
 {
     match effective {
         Selection::Nothing => Rank::None,
-        Selection::Sg(n, _) => Rank::from_number(machine_data::number(
-            machine,
-            7 + ((n % 4) as usize),
-        )),
+        Selection::Sg(n, _) => Rank::from_number(machine_data::sg_stop(machine, n)),
         Selection::Sbh => Rank::None,
     }
 }

@@ -1,18 +1,25 @@
 -- The run of an accepted log, entry by entry: what is left to run gives, from here, what the whole log gives. Assumes nothing.
 use mathlib.Core.Path.{_≡_, refl, sym, ap, _∙_, subst}
 use mathlib.Core.List.{List, [], _∷_, _++_, append-assoc, append-nil}
-use Prim.Native.Nat.{ℕ, _+_, _*_, _≤_, _<_}
+use Prim.Native.Nat.{ℕ, _+_, _*_, _/_, _≤_, _<_}
 use native.Mathlib.Omega.{arith}
-use lib.ListN.{length, take, drop, take-append-drop}
+use lib.ListN.{length, getD, take, drop, take-append-drop}
 use lib.Seq.{drop-drop}
 use lib.IntN.{ℤ}
+use Rattle.channel.specs.declared.Given.{Given}
+use Rattle.channel.specs.declared.Advanced.{Advanced}
+use Rattle.channel.specs.Cycle.{next}
+use Rattle.channel.specs.Word.{word}
+use Rattle.channel.specs.Ensures.{AdvanceEnsures}
+use Rattle.device.specs.Device.{deviceOf}
 use Rattle.records.specs.declared.CycleRecord.{CycleRecord}
 use Rattle.records.specs.declared.Entry as E
 use Rattle.records.specs.Records.{entryAt, LogRead, records, fault, before, logOf}
+use Rattle.records.specs.Seven.{recordFrom}
+use Rattle.records.proofs.Seven.{record-kind, remark-kind, holds}
 use Rattle.records.proofs.Scanning.{Rest, at-record, at-remark, at-bad, at-end}
 use Rattle.log.specs.declared.Both.{Both}
-use Rattle.log.specs.declared.Turn.{Turn}
-use Rattle.log.specs.Run.{turnOf, lineOf, lastOf, linesOf}
+use Rattle.log.specs.Run.{givenA, givenB, Turn, turnOf, lineOf, lastOf, linesOf}
 use Rattle.log.specs.Ensures.{Enough, Runs}
 use Rattle.log.proofs.Output.{taken, dropped, kept-length}
 
@@ -21,6 +28,18 @@ never z = absurd (go z)
   where
     go : _≡_ {A = ℕ} 0 1 → ⊥
     go y = omega arith
+
+-- both channels' cycles and their device word are a turn
+pub turned : (da db : List ℤ) (x : Both) (r : CycleRecord) (ga gb : Given) (ta tb : Advanced) (w : ℕ) → ga ≡ givenA da db x r → gb ≡ givenB da db x r →
+    AdvanceEnsures da (x .a) ga ta → AdvanceEnsures db (x .b) gb tb → w ≡ deviceOf (ta .word) (tb .word) →
+    record { both = record { a = ta .state; b = tb .state }; a = ta .word; b = tb .word; device = w } ≡ turnOf da db x r
+unfolding turnOf
+turned da db x r ga gb ta tb w ea eb ha hb hw =
+    let wa = ha .word-is ∙ ap (word da (x .a)) ea in
+    let wb = hb .word-is ∙ ap (word db (x .b)) eb in
+    let sa = ha .state ∙ ap (next da (x .a)) ea in
+    let sb = hb .state ∙ ap (next db (x .b)) eb in
+    λ i. record { both = record { a = sa i; b = sb i }; a = wa i; b = wb i; device = (hw ∙ (λ j. deviceOf (wa j) (wb j))) i }
 
 -- at a place of the words and of the output, with the states x there
 pub record Going (da db : List ℤ) (x₀ : Both) (words out₀ out : List ℕ) (x : Both) (at next : ℕ) : Type 0 where
@@ -69,6 +88,23 @@ module _ (da db : List ℤ) (x₀ : Both) (words out₀ : List ℕ) where
       where
         apart : {X : Type 0} → fault place ≡ records (g .rest) → X
         apart q = never (cc)
+
+    -- what stands here, by its first word's kind
+    pub record-here : at < length words → getD words at 0 / 268435456 ≡ 4 → entryAt words at ≡ E.the-variants.Record (recordFrom words at)
+    record-here h k = go (entryAt words at) refl
+      where
+        go : (x : E.Entry) → entryAt words at ≡ x → entryAt words at ≡ E.the-variants.Record (recordFrom words at)
+        go (E.the-variants.Record r) e = e ∙ ap E.the-variants.Record (sym (holds words at r e))
+        go E.the-variants.Remark e = absurd (omega (arith, k, remark-kind words at e))
+        go (E.the-variants.Bad place) e = no-fault h e
+
+    pub remark-here : at < length words → (getD words at 0 / 268435456 ≡ 4 → ⊥) → entryAt words at ≡ E.the-variants.Remark
+    remark-here h k = go (entryAt words at) refl
+      where
+        go : (x : E.Entry) → entryAt words at ≡ x → entryAt words at ≡ E.the-variants.Remark
+        go (E.the-variants.Record r) e = absurd (k (record-kind words at r e))
+        go E.the-variants.Remark e = e
+        go (E.the-variants.Bad place) e = no-fault h e
 
     next-record : (r : CycleRecord) → at < length words → entryAt words at ≡ E.the-variants.Record r → (rs : List CycleRecord) × (g .rest ≡ r ∷ rs) × Rest words (at + 7) (records rs)
     next-record r h e = let a = at-record words at (records (g .rest)) r h e (g .left) in go (a .0) (a .1) (a .2)

@@ -15,13 +15,19 @@ use Rattle.channel.specs.Cycle.{reportOf, next}
 use Rattle.channel.specs.Word.{word}
 use Rattle.device.specs.Device.{deviceOf}
 use Rattle.log.specs.declared.Both.{Both}
-use Rattle.log.specs.declared.Turn.{Turn}
 use Rattle.log.specs.declared.LogAnswer.{LogAnswer}
 use Rattle.log.specs.declared.LogAnswer.the-variants.{Accepted, Refused}
 
 -- what a record gives a channel: its own reading, and the other's report, "datum k by the data and k of the channel given"
 abbrev pub givenBy : List ℤ → State → Reading → Reading → Bool → Given
 givenBy d s own other ack = record { reading = own; acknowledged = ack; report = reportOf d s other }
+
+-- a cycle of both channels: the states after it, and its three words
+pub record Turn : Type 0 where
+  pub both : Both
+  pub a : ℕ
+  pub b : ℕ
+  pub device : ℕ
 
 module _ (da db : List ℤ) where
   -- both reports are from before the cycle

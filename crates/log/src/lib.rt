@@ -3,14 +3,14 @@ ghost use mathlib.Core.Path.{_≡_};
 ghost use Prim.Native.Nat.{_+_, _≤_, _*_};
 ghost use mathlib.Core.List.{_∷_, _++_};
 ghost use lib.ListN.{length, take, drop};
-ghost use Rattle.log.specs.Run.{givenBy, turnOf};
+ghost use Rattle.records.specs.Seven.{recordFrom};
+ghost use Rattle.log.specs.Run.{givenBy};
 ghost use Rattle.log.specs.Ensures.{LogEnsures, refusedRun, Enough, Sound, Runs};
 use channel::Channel;
 use channel::Given;
 use channel::State;
 use inputs::Reading;
 use records::CycleRecord;
-use records::Entry;
 use records::Scan;
 
 pub enum LogAnswer {
@@ -33,14 +33,6 @@ struct Both {
     b: State,
 }
 
-// What a cycle of both channels gives.
-struct Turn {
-    both: Both,
-    a: u32,
-    b: u32,
-    device: u32,
-}
-
 // What a channel is given in a record: its own reading, and the other's report from before the cycle.
 fn given(
     other: &[i32; 51],
@@ -58,22 +50,15 @@ fn given(
     }
 }
 
-fn turn_of<'a>(ma: &'a [i32; 51], mb: &'a [i32; 51], both: Both, r: CycleRecord) -> Turn
-    ensures { λ t. ⌜ t ≡ turnOf (now (ma .entry)) (now (mb .entry)) both r ⌝ }
+// The record at a place where one stands.
+fn record_at(words: &[u32], at: usize) -> CycleRecord
+    requires { ⌜ at + 7 ≤ length (now words) ⌝ }
+    ensures { λ r. ⌜ r ≡ recordFrom (now (words .entry)) at ⌝ }
 {
-    let sa = both.a;
-    let sb = both.b;
-    let ra = r.a;
-    let rb = r.b;
-    let a = channel::step(ma, sa, given(mb, sb, ra, rb, r.acknowledged));
-    let b = channel::step(mb, sb, given(ma, sa, rb, ra, r.acknowledged));
-    let na = a.state;
-    let nb = b.state;
-    Turn {
-        both: Both { a: na, b: nb },
-        a: a.word,
-        b: b.word,
-        device: device::device_word(a.word, b.word),
+    CycleRecord {
+        a: records::reading_of(words[at], words[at + 1], words[at + 2]),
+        b: records::reading_of(words[at + 3], words[at + 4], words[at + 5]),
+        acknowledged: words[at + 6] % 2 == 1,
     }
 }
 
@@ -87,7 +72,7 @@ fn put(out: &mut [u32], at: usize, a: u32, b: u32, device: u32)
     out[at + 2] = device;
 }
 
-// The records of an accepted log, run one by one.
+// The records of an accepted log, run one by one: what begins with a position is a record, and all else a remark.
 fn run_records<'a>(
     ma: &'a [i32; 51],
     mb: &'a [i32; 51],
@@ -98,29 +83,37 @@ fn run_records<'a>(
     requires { ⌜ Enough (now words) (now out) ⌝ }
     ensures { λ r. ⌜ Runs (now (ma .entry)) (now (mb .entry)) both (now (words .entry)) (now (out .entry)) r (now (out .exit)) ⌝ }
 {
-    let mut now = both;
+    let mut a = both.a;
+    let mut b = both.b;
     let mut at = 0usize;
     let mut next = 0usize;
     while at < words.len() {
-        let entry = records::entry_at(words, at);
-        match entry {
-            Entry::Record(r) => {
-                let t = turn_of(ma, mb, now, r);
-                put(out, next, t.a, t.b, t.device);
-                let after = t.both;
-                now = after;
-                at += 7;
-                next += 3;
-            }
-            Entry::Remark => {
-                at += 1;
-            }
-            Entry::Bad(_) => {
-                return now;
-            }
+        if words[at] / 268435456 == 4 {
+            let r = record_at(words, at);
+            let ra = r.a;
+            let rb = r.b;
+            let ga = given(mb, b, ra, rb, r.acknowledged);
+            let gb = given(ma, a, rb, ra, r.acknowledged);
+            let ta = channel::advance(ma, a, ga);
+            let tb = channel::advance(mb, b, gb);
+            put(
+                out,
+                next,
+                ta.word,
+                tb.word,
+                device::device_word(ta.word, tb.word),
+            );
+            let na = ta.state;
+            let nb = tb.state;
+            a = na;
+            b = nb;
+            at += 7;
+            next += 3;
+        } else {
+            at += 1;
         }
     }
-    now
+    Both { a, b }
 }
 
 fn refused(number: u32, place: usize, a: Channel, b: Channel) -> LogRun

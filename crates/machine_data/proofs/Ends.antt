@@ -1,45 +1,34 @@
--- The code's two tables hold the ends of the paper's rows. Assumes nothing.
-use mathlib.Core.Path.{_≡_, sym, ap, _∙_}
-use mathlib.Core.List.{List, [], _∷_}
-use mathlib.Core.Bool.{Bool, true, false, cond, _&&_}
-use Prim.Native.Nat.{ℕ, zero, suc, _+_, _<_}
-use native.Mathlib.Nat.{add-zero, zero-add, add-suc, suc-add, le-of-suc-le-suc, not-suc-le-zero}
-use lib.ListN.{getD}
-use lib.IntN.{ℤ, pos}
-use lib.Signed.{mag}
-use lib.Dec.{T, leb, ltb, ltb→lt}
+-- The code's ends of a range are those of the paper's rows: one computed test for each stretch of numbers. Assumes nothing.
+use mathlib.Core.Path.{_≡_, refl, ap, _∙_}
+use mathlib.Core.Bool.{Bool, true, false, _&&_}
+use Prim.Native.Nat.{ℕ, zero, suc, _+_, _≤_, _<_}
+use native.Mathlib.Omega.{arith}
+use lib.IntN.{ℤ, pos, negsuc}
+use lib.Dec.{T, eqb, ltb, eqb→eq}
 use lib.Ieee.Fits.{and-l, and-r}
-use mir.Syntax.{w32}
-use mir.Val.{SFits, toZ, ofZ}
-use mir.ValLaws.{toZ-ofZ}
-use Rattle.machine_data.specs.Table.{Row, rows, rowOf}
+use borrow.Author.Tests.{ltb-true, ltb-false}
 
--- f at i, i + 1, .., n of them
-abbrev pub tabled : (ℕ → ℤ) → ℕ → ℕ → List ℤ
-tabled f zero i = []
-tabled f (suc n) i = f i ∷ tabled f n (suc i)
+abbrev same : ℤ → ℤ → Bool
+same (pos m) (pos n) = eqb m n
+same (pos m) (negsuc n) = false
+same (negsuc m) (pos n) = false
+same (negsuc m) (negsuc n) = eqb m n
 
-from : (f : ℕ → ℤ) (n i k : ℕ) → k < n → getD (tabled f n i) k (pos 0) ≡ f (i + k)
-from f zero i k h = absurd (not-suc-le-zero h)
-from f (suc n) i zero h = ap f (sym (add-zero i))
-from f (suc n) i (suc k) h = from f n (suc i) k (le-of-suc-le-suc h) ∙ ap f (suc-add i k ∙ sym (add-suc i k))
+same-is : (y z : ℤ) → T (same y z) → y ≡ z
+same-is (pos m) (pos n) t = ap pos (eqb→eq m n t)
+same-is (pos m) (negsuc n) t = absurd t
+same-is (negsuc m) (pos n) t = absurd t
+same-is (negsuc m) (negsuc n) t = ap negsuc (eqb→eq m n t)
 
--- every end of a row is an i32; `end` is the row's low or its high
-abbrev fitting : (Row → ℤ) → List Row → Bool
-fitting end [] = true
-fitting end (r ∷ rs) = ltb (mag (end r)) 2147483648 && fitting end rs
+-- f is v at a, a + 1, .., n of them
+abbrev level : (ℕ → ℤ) → ℤ → ℕ → ℕ → Bool
+level f v a zero = true
+level f v a (suc n) = same v (f a) && level f v (suc a) n
 
-row-fits : (end : Row → ℤ) (rs : List Row) (k : ℕ) → T (fitting end rs) → SFits w32 (end (rowOf [] k)) → SFits w32 (end (rowOf rs k))
-row-fits end [] k t none = none
-row-fits end (r ∷ rs) k t none = go (leb k (r .last)) (row-fits end rs k (and-r (ltb (mag (end r)) 2147483648) (fitting end rs) t) none)
+pub along : (f : ℕ → ℤ) (v : ℤ) (a n k : ℕ) → T (level f v a n) → a ≤ k → k < a + n → v ≡ f k
+along f v a zero k t h l = absurd (omega (arith, h, l))
+along f v a (suc n) k t h l = go (ltb a k) refl (λ later. along f v (suc a) n k (and-r (same v (f a)) (level f v (suc a) n) t) later (omega (arith, l)))
   where
-    go : (b : Bool) → SFits w32 (end (rowOf rs k)) → SFits w32 (end (cond b r (rowOf rs k)))
-    go true later = record { sfits = ltb→lt (mag (end r)) 2147483648 (and-l (ltb (mag (end r)) 2147483648) (fitting end rs) t) }
-    go false later = later
-
--- an entry of the table that is worked out from the rows, as the machine reads it
-pub entry : (end : Row → ℤ) (k : ℕ) → T (fitting end rows) → SFits w32 (end (rowOf [] k)) → k < 51 →
-    toZ w32 (ofZ w32 (getD (tabled (λ n. end (rowOf rows n)) 51 0) k (pos 0))) ≡ end (rowOf rows k)
-entry end k t none h =
-    ap (λ (z : ℤ). toZ w32 (ofZ w32 z)) (from (λ n. end (rowOf rows n)) 51 0 k h ∙ ap (λ (n : ℕ). end (rowOf rows n)) (zero-add k))
-    ∙ toZ-ofZ w32 (end (rowOf rows k)) (row-fits end rows k t none)
+    go : (b : Bool) → ltb a k ≡ b → (a < k → v ≡ f k) → v ≡ f k
+    go true q later = later (ltb-true a k q)
+    go false q later = same-is v (f a) (and-l (same v (f a)) (level f v (suc a) n) t) ∙ ap f (omega (arith, h, ltb-false a k q))

@@ -1,8 +1,8 @@
 // The machine data of a channel: the table of ranges, the 51 data of a list, and a datum read within its range.
 ghost use mathlib.Core.Path.{_≡_};
-ghost use Prim.Native.Nat.{_<_};
+ghost use Prim.Native.Nat.{_<_, _+_, _%_};
 ghost use Rattle.machine_data.specs.Table.{lowOf, highOf, inRange};
-ghost use Rattle.machine_data.specs.Data.{datumOf, numberOf, entryOf, functionOf};
+ghost use Rattle.machine_data.specs.Data.{datumOf, size, numberOf, entryOf, functionOf};
 
 // The 51 data of an accepted list; a count of 0 where there is no list.
 pub struct MachineData {
@@ -10,126 +10,66 @@ pub struct MachineData {
     pub count: usize,
 }
 
-const LOW: [i32; 51] = [
-    1,
-    0,
-    0,
-    1,
-    1,
-    1,
-    1,
-    1,
-    1,
-    1,
-    1,
-    -100000000,
-    -100000000,
-    -100000000,
-    -100000000,
-    1,
-    -100000000,
-    -100000000,
-    -100000000,
-    -100000000,
-    -100000000,
-    -100000000,
-    -100000000,
-    -100000000,
-    0,
-    0,
-    0,
-    0,
-    0,
-    0,
-    0,
-    0,
-    0,
-    0,
-    0,
-    1,
-    1,
-    1,
-    1,
-    1,
-    1,
-    1,
-    1,
-    1,
-    1,
-    1,
-    1,
-    1,
-    1,
-    1,
-    1,
-];
-
-const HIGH: [i32; 51] = [
-    25,
-    31,
-    100000,
-    1000000,
-    1000000,
-    1000000,
-    1000000,
-    5,
-    5,
-    5,
-    5,
-    100000000,
-    100000000,
-    100000000,
-    100000000,
-    3,
-    100000000,
-    100000000,
-    100000000,
-    100000000,
-    100000000,
-    100000000,
-    100000000,
-    100000000,
-    100000,
-    1000000,
-    100000,
-    1000,
-    1000,
-    1000,
-    1000,
-    1000,
-    1000,
-    1000000,
-    1000,
-    100,
-    100,
-    100,
-    100,
-    100,
-    100,
-    100,
-    100,
-    100,
-    100,
-    100,
-    100,
-    100,
-    100,
-    100,
-    100,
-];
-
+// The lower end of datum k's range.
 fn low(k: usize) -> i32
     requires { ⌜ k < 51 ⌝ }
     ensures { λ r. ⌜ r ≡ lowOf k ⌝ }
 {
-    LOW[k]
+    if k < 1 {
+        1
+    } else if k < 3 {
+        0
+    } else if k < 11 {
+        1
+    } else if k < 15 {
+        -100000000
+    } else if k < 16 {
+        1
+    } else if k < 24 {
+        -100000000
+    } else if k < 35 {
+        0
+    } else {
+        1
+    }
 }
 
+// The upper end.
 fn high(k: usize) -> i32
     requires { ⌜ k < 51 ⌝ }
     ensures { λ r. ⌜ r ≡ highOf k ⌝ }
 {
-    HIGH[k]
+    if k < 1 {
+        25
+    } else if k < 2 {
+        31
+    } else if k < 3 {
+        100000
+    } else if k < 7 {
+        1000000
+    } else if k < 11 {
+        5
+    } else if k < 15 {
+        100000000
+    } else if k < 16 {
+        3
+    } else if k < 24 {
+        100000000
+    } else if k < 25 {
+        100000
+    } else if k < 26 {
+        1000000
+    } else if k < 27 {
+        100000
+    } else if k < 33 {
+        1000
+    } else if k < 34 {
+        1000000
+    } else if k < 35 {
+        1000
+    } else {
+        100
+    }
 }
 
 // Whether z may be datum k. There is no datum past 50.
@@ -145,16 +85,14 @@ pub fn in_range(k: usize, z: i32) -> bool
     z <= high(k)
 }
 
-// Datum k, read within its range: what lies outside, as in no accepted list, reads as the nearer end.
-pub fn datum(values: &[i32; 51], k: usize) -> i32
+// Datum k between the ends of its range: what lies outside, as in no accepted list, reads as the nearer end.
+fn read(values: &[i32; 51], k: usize, least: i32, most: i32) -> i32
+    requires { ⌜ k < 51 ⌝ }
+    requires { ⌜ least ≡ lowOf k ⌝ }
+    requires { ⌜ most ≡ highOf k ⌝ }
     ensures { λ r. ⌜ r ≡ datumOf (now (values .entry)) k ⌝ }
 {
-    if 51 <= k {
-        return 0;
-    }
     let z = values[k];
-    let least = low(k);
-    let most = high(k);
     if z < least {
         return least;
     }
@@ -164,12 +102,56 @@ pub fn datum(values: &[i32; 51], k: usize) -> i32
     z
 }
 
-// Datum k as a number: every datum but the positions is at least 0.
+// A number, 0 below 0: every datum but the positions is at least 0.
+fn size(z: i32) -> u64
+    ensures { λ r. ⌜ r ≡ size z ⌝ }
+{
+    if z < 0 { 0 } else { z as u64 }
+}
+
+// Datum k, read within its range.
+pub fn datum(values: &[i32; 51], k: usize) -> i32
+    ensures { λ r. ⌜ r ≡ datumOf (now (values .entry)) k ⌝ }
+{
+    if 51 <= k {
+        return 0;
+    }
+    read(values, k, low(k), high(k))
+}
+
+// Datum k as a number.
 pub fn number(values: &[i32; 51], k: usize) -> u64
     ensures { λ r. ⌜ r ≡ numberOf (now (values .entry)) k ⌝ }
 {
-    let z = datum(values, k);
-    if z < 0 { 0 } else { z as u64 }
+    size(datum(values, k))
+}
+
+// The limit of SG n + 1.
+pub fn sg_limit(values: &[i32; 51], n: u8) -> u64
+    ensures { λ r. ⌜ r ≡ numberOf (now (values .entry)) (3 + n % 4) ⌝ }
+{
+    size(read(values, 3 + ((n % 4) as usize), 1, 1000000))
+}
+
+// The stop of SG n + 1, by its rank's number.
+pub fn sg_stop(values: &[i32; 51], n: u8) -> u64
+    ensures { λ r. ⌜ r ≡ numberOf (now (values .entry)) (7 + n % 4) ⌝ }
+{
+    size(read(values, 7 + ((n % 4) as usize), 1, 5))
+}
+
+// The edge of cam n, in data order.
+pub fn cam_edge(values: &[i32; 51], n: usize) -> i32
+    ensures { λ r. ⌜ r ≡ datumOf (now (values .entry)) (16 + n % 8) ⌝ }
+{
+    read(values, 16 + n % 8, -100000000, 100000000)
+}
+
+// The percent of override n.
+pub fn percent(values: &[i32; 51], n: u8) -> u64
+    ensures { λ r. ⌜ r ≡ numberOf (now (values .entry)) (35 + n % 16) ⌝ }
+{
+    size(read(values, 35 + ((n % 16) as usize), 1, 100))
 }
 
 // Datum k as it stands, for a report and its comparison.

@@ -1,3 +1,4 @@
 pub mod Parts
 pub mod Scanning
 pub mod Logs
+pub mod Seven

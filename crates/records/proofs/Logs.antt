@@ -114,7 +114,7 @@ no-remark-inside s at a e =
     (λ w y. let z = is-end (wordAt s (at + 3)) (λ ack. E.the-variants.Record (record { a = a; b = record { position = p .0; inputs = w }; acknowledged = ack })) (E.the-variants.Bad (at + 3)) E.the-variants.Remark y (λ q. never (cc)) in never (cc (z .2)))
     (p .2)
 
-remark-at : (s : List ℕ) (at : ℕ) → entryAt s at ≡ E.the-variants.Remark → wordAt s at ≡ W.Remark
+pub remark-at : (s : List ℕ) (at : ℕ) → entryAt s at ≡ E.the-variants.Remark → wordAt s at ≡ W.Remark
 unfolding entryAt
 remark-at s at = go (wordAt s at) refl
   where

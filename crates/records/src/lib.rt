@@ -1,6 +1,9 @@
 // A log as cycle records, with remarks between them.
 ghost use mathlib.Core.Path.{_≡_};
+ghost use Prim.Native.Nat.{_≤_};
+ghost use lib.ListN.{length};
 ghost use Rattle.records.specs.Records.{inputsAt, endingAt, otherAt, betweenOf, entryAt, scanOf};
+ghost use Rattle.records.specs.Seven.{readingOf, isReading, isRecord, markOf};
 use inputs::Reading;
 use words::Word;
 
@@ -20,6 +23,13 @@ enum InputsRead {
 // What stands at a place of a log: a record of seven words, a remark, or the place of a missing or wrong word.
 pub enum Entry {
     Record(CycleRecord),
+    Remark,
+    Bad(usize),
+}
+
+// The kind of an entry, or the place of a missing or wrong word.
+enum Mark {
+    Record,
     Remark,
     Bad(usize),
 }
@@ -90,6 +100,70 @@ pub fn entry_at(words: &[u32], at: usize) -> Entry
     }
 }
 
+// What three words of a record hold: a position, and the two halves of an input word.
+pub fn reading_of(position: u32, lower: u32, upper: u32) -> Reading
+    ensures { λ r. ⌜ r ≡ readingOf position lower upper ⌝ }
+{
+    Reading {
+        position: words::position_of(position),
+        inputs: upper % 65536 * 65536 + lower % 65536,
+    }
+}
+
+// Whether three words are of the kinds of a record's part.
+fn is_reading(position: u32, lower: u32, upper: u32) -> bool
+    ensures { λ r. ⌜ r ≡ isReading position lower upper ⌝ }
+{
+    if position / 268435456 != 4 {
+        return false;
+    }
+    if lower / 65536 != 20480 {
+        return false;
+    }
+    upper / 65536 == 24576
+}
+
+// Whether the words from a place on are of the kinds of a record.
+fn is_record(words: &[u32], at: usize) -> bool
+    requires { ⌜ at ≤ length (now words) ⌝ }
+    ensures { λ r. ⌜ r ≡ isRecord (now (words .entry)) at ⌝ }
+{
+    if words.len() - at < 7 {
+        return false;
+    }
+    if is_reading(words[at], words[at + 1], words[at + 2]) {
+        if is_reading(words[at + 3], words[at + 4], words[at + 5]) {
+            words[at + 6] / 2 == 939524096
+        } else {
+            false
+        }
+    } else {
+        false
+    }
+}
+
+fn mark_of(entry: Entry) -> Mark
+    ensures { λ r. ⌜ r ≡ markOf entry ⌝ }
+{
+    match entry {
+        Entry::Record(_) => Mark::Record,
+        Entry::Remark => Mark::Remark,
+        Entry::Bad(place) => Mark::Bad(place),
+    }
+}
+
+// The kind of the entry at a place: a record is found by its words' kinds alone.
+fn mark_at(words: &[u32], at: usize) -> Mark
+    requires { ⌜ at ≤ length (now words) ⌝ }
+    ensures { λ r. ⌜ r ≡ markOf (entryAt (now (words .entry)) at) ⌝ }
+{
+    if is_record(words, at) {
+        Mark::Record
+    } else {
+        mark_of(entry_at(words, at))
+    }
+}
+
 // The cycles of a whole log.
 pub fn scan_log(words: &[u32]) -> Scan
     ensures { λ r. ⌜ r ≡ scanOf (now (words .entry)) ⌝ }
@@ -97,16 +171,16 @@ pub fn scan_log(words: &[u32]) -> Scan
     let mut at = 0usize;
     let mut cycles = 0usize;
     while at < words.len() {
-        let entry = entry_at(words, at);
-        match entry {
-            Entry::Record(_) => {
+        let mark = mark_at(words, at);
+        match mark {
+            Mark::Record => {
                 at += 7;
                 cycles += 1;
             }
-            Entry::Remark => {
+            Mark::Remark => {
                 at += 1;
             }
-            Entry::Bad(place) => {
+            Mark::Bad(place) => {
                 return Scan::Bad(place);
             }
         }

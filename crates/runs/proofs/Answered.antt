@@ -3,8 +3,8 @@
 use mathlib.Core.List.{List, [], _∷_, _++_}
 use mathlib.Core.Path.{refl}
 use Rattle.channel.specs.declared.Channel.{Channel}
-use Rattle.causes.specs.Causes.{noTally, tallied}
-use Rattle.causes.proofs.Laws.{tallied-lists}
+use Rattle.causes.specs.Causes.{noCauses, listed}
+use Rattle.causes.proofs.Laws.{lists}
 use Rattle.channel.specs.Causes.{rowsOf}
 use Rattle.channel.proofs.Judging.{few-rows}
 use Rattle.channel.specs.Cycle.{next}
@@ -28,13 +28,13 @@ answer c (single g other) =
     let r : SingleOutcome = record {
       channel = withState c (next (c .machine .values) (c .state) g);
       word = w;
-      causes = tallied (rowsOf (c .machine .values) (c .state) g) noTally .causes;
+      causes = listed (rowsOf (c .machine .values) (c .state) g) noCauses;
       device = deviceOf w other;
     } in
     record {
       channel = r .channel;
       words = record { channel = r .word; device = r .device } ∷ [];
-      is = cycled r (record { cycle = record { channel = refl; word-is = refl; causes = tallied-lists (rowsOf (c .machine .values) (c .state) g) (few-rows (c .machine .values) (c .state) g) }; device = refl });
+      is = cycled r (record { cycle = record { channel = refl; word-is = refl; causes = lists (rowsOf (c .machine .values) (c .state) g) (few-rows (c .machine .values) (c .state) g) }; device = refl });
     }
 answer c (logged s o words out) =
     let x = ranOf (own s c o) (own s o c) words out in

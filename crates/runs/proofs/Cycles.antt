@@ -20,9 +20,10 @@ use Rattle.stop.proofs.Laws.{cause-met, kept}
 use Rattle.comparison.specs.Comparison.{positionDiffers, inputsDiffer, datumDiffers, expired}
 use Rattle.causes.specs.declared.Cause.{Cause}
 use Rattle.causes.specs.Causes.{freshOf}
+use Rattle.causes.specs.Table.{cause}
 use Rattle.channel.specs.declared.State.{State}
 use Rattle.channel.specs.declared.Given.{Given}
-use Rattle.channel.specs.Causes.{movedOf, choiceIn, differingIn, differsIn, faultIn, cause, usableRows, rowsOf}
+use Rattle.channel.specs.Causes.{movedOf, choiceIn, differingIn, differsIn, faultIn, usableRows, rowsOf}
 use Rattle.channel.specs.Cycle.{freshState, nextK, strongestIn, clearsIn, enteredIn, clearedFault, unusableNext, usableNext, next}
 use Rattle.runs.specs.Demand3.{causeOf, sgLessOne}
 use Rattle.runs.proofs.Tests.{if-case, not-both, or-left}

@@ -49,7 +49,8 @@ use Rattle.stop.specs.declared.Rank.the-variants.{None}
 use Rattle.stop.specs.Stop.{rankNumber, timeOf}
 use Rattle.causes.specs.declared.Cause.{Cause}
 use Rattle.channel.specs.declared.Given.{Given}
-use Rattle.channel.specs.Causes.{cause, rowsOf}
+use Rattle.causes.specs.Table.{cause}
+use Rattle.channel.specs.Causes.{rowsOf}
 use Rattle.channel.specs.Cycle.{freshChannel, clearsIn, enteredIn}
 use Rattle.channel_word.specs.Word.{isEffective}
 use Rattle.device.specs.Device.{wordRank}

@@ -3,7 +3,7 @@ use Prim.Native.Nat.{ℕ, zero, suc}
 use mathlib.Core.Bool.{Bool, true, false, not, cond, _&&_, _||_}
 use mathlib.Core.List.{List}
 use lib.IntN.{ℤ}
-use lib.Dec.{ltb}
+use lib.Dec.{ltb, eqb}
 use Rattle.bits.specs.Bits.{bitOf, fieldOf}
 use Rattle.machine_data.specs.Data.{numberOf, functionOf}
 use Rattle.speed.specs.Speed.{speedOf}
@@ -26,6 +26,17 @@ allowanceOf d Sbh = 0
 -- s is stricter than e
 unfoldable pub stricter : List ℤ → Selection → Selection → Bool
 stricter d s e = ltb (allowanceOf d s) (allowanceOf d e)
+
+-- the same SG with the same override
+abbrev pub isSg : ℕ → ℕ → Selection → Bool
+isSg n o Nothing = false
+isSg n o (Sg m p) = eqb m n && eqb p o
+isSg n o Sbh = false
+
+abbrev pub sameSg : Selection → Selection → Bool
+sameSg Nothing e = false
+sameSg (Sg n o) e = isSg n o e
+sameSg Sbh e = false
 
 abbrev pub isSbh : Selection → Bool
 isSbh Nothing = false

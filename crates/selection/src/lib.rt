@@ -1,6 +1,6 @@
 // Step 3 of a cycle: what is selected, and what is effective.
 ghost use mathlib.Core.Path.{_≡_};
-ghost use Rattle.selection.specs.Selection.{selectedOf, allowanceOf, stricter, isSbh, referenceOf, boundOf, countOf, waitedOf, choiceNext};
+ghost use Rattle.selection.specs.Selection.{selectedOf, allowanceOf, stricter, isSg, sameSg, isSbh, referenceOf, boundOf, countOf, waitedOf, choiceNext};
 use inputs::Reading;
 
 pub enum Selection {
@@ -55,6 +55,28 @@ fn is_sbh(s: Selection) -> bool
         Selection::Nothing => false,
         Selection::Sg(_, _) => false,
         Selection::Sbh => true,
+    }
+}
+
+// Whether s is SG n + 1 with override o.
+fn is_sg(s: Selection, n: u8, o: u8) -> bool
+    ensures { λ r. ⌜ r ≡ isSg n o s ⌝ }
+{
+    match s {
+        Selection::Nothing => false,
+        Selection::Sg(m, p) => m == n && p == o,
+        Selection::Sbh => false,
+    }
+}
+
+// Whether both are the same SG with the same override: neither is the stricter.
+fn same_sg(s: Selection, e: Selection) -> bool
+    ensures { λ r. ⌜ r ≡ sameSg s e ⌝ }
+{
+    match s {
+        Selection::Nothing => false,
+        Selection::Sg(n, o) => is_sg(e, n, o),
+        Selection::Sbh => false,
     }
 }
 
@@ -120,6 +142,9 @@ impl Choice {
         ensures { λ r. ⌜ r ≡ stricter (now (machine .entry)) s (self .effective) ⌝ }
     {
         let e = self.effective;
+        if same_sg(s, e) {
+            return false;
+        }
         allowance(machine, s) < allowance(machine, e)
     }
 

@@ -7,7 +7,7 @@ fn percent(machine: &[i32; 51], n: u8, o: u8) -> u64
     ensures { λ r. ⌜ r ≡ percentOf (now (machine .entry)) n o ⌝ }
 {
     if n % 2 == 1 {
-        machine_data::number(machine, 35 + ((o % 16) as usize))
+        machine_data::percent(machine, o)
     } else {
         100
     }
@@ -17,7 +17,7 @@ fn percent(machine: &[i32; 51], n: u8, o: u8) -> u64
 pub fn sg_speed(machine: &[i32; 51], n: u8, o: u8) -> u64
     ensures { λ r. ⌜ r ≡ speedOf (now (machine .entry)) n o ⌝ }
 {
-    machine_data::number(machine, 3 + ((n % 4) as usize)) * percent(machine, n, o)
+    machine_data::sg_limit(machine, n) * percent(machine, n, o)
 }
 
 // Whether a step is over SG n + 1 with override o.

@@ -1,6 +1,6 @@
 // A 32-bit word of a list or a log: its kind in the top 4 bits, and what the other 28 hold.
 ghost use mathlib.Core.Path.{_≡_};
-ghost use Prim.Native.Nat.{_<_, _≤_, _*_};
+ghost use Prim.Native.Nat.{_<_, _≤_, _*_, _%_};
 ghost use Rattle.words.specs.Words.{twos, datumOf, wordOf, wordAt};
 
 // A word taken apart. Other: a word that no list and no log can hold.
@@ -40,6 +40,13 @@ pub fn signed32(bits: u32) -> i32
     ensures { λ r. ⌜ r ≡ twos 2147483648 bits ⌝ }
 {
     signed(bits, 2147483648)
+}
+
+// The position that a word of kind 4 holds.
+pub fn position_of(w: u32) -> i32
+    ensures { λ r. ⌜ r ≡ twos 134217728 (w % 268435456) ⌝ }
+{
+    signed(w % KIND, 134217728)
 }
 
 fn datum(value: u32) -> Word

@@ -4,30 +4,27 @@ use borrow.Author.Needs.{needs}
 use Rattle.cams.proofs.cam.Statement.{statement}
 use Rattle.cams.proofs.cam.Tie as tie
 
-add-datum : tie.Need-add-datum
-add-datum c = search needs
+cam-edge-requires : tie.Need-cam-edge-requires
+cam-edge-requires c κs = search needs
+
+cast-edge : tie.Need-cast-edge
+cast-edge c = wide-fits {z = c .cam-edge .result} (record { sfits = c .cam-edge .ok })
 
 datum-requires : tie.Need-datum-requires
 datum-requires c κs = search needs
 
-cast-edge : tie.Need-cast-edge
-cast-edge c = wide-fits {z = c .datum .result} (record { sfits = c .datum .ok })
-
-datum-requires-2 : tie.Need-datum-requires-2
-datum-requires-2 c κs = search needs
-
 cast-tolerance : tie.Need-cast-tolerance
-cast-tolerance c = wide-fits {z = c .datum2 .result} (record { sfits = c .datum2 .ok })
+cast-tolerance c = wide-fits {z = c .datum .result} (record { sfits = c .datum .ok })
 
 read : (c : tie.After-struct-told) → let k = c .before .before .before .before .args in
-    Read (k .machine .now) (k .reading .position) (k .n) (c .before .before .before .datum .result) (c .before .before .datum2 .result)
+    Read (k .machine .now) (k .reading .position) (k .n) (c .before .before .before .cam-edge .result) (c .before .before .datum .result)
 read c =
     record {
-      edge-fits = record { sfits = c .before .before .before .datum .ok };
-      tolerance-fits = record { sfits = c .before .before .datum2 .ok };
+      edge-fits = record { sfits = c .before .before .before .cam-edge .ok };
+      tolerance-fits = record { sfits = c .before .before .datum .ok };
       position-fits = search needs;
-      edge-is = c .before .before .before .datum .ensures;
-      tolerance-is = c .before .before .datum2 .ensures;
+      edge-is = c .before .before .before .cam-edge .ensures;
+      tolerance-is = c .before .before .datum .ensures;
     }
 
 cast-position : tie.Need-cast-position
@@ -49,10 +46,9 @@ pub cam-spec : {M : Type 1} → statement M
 cam-spec =
     tie.close
     (tie.spec
-    add-datum
-    datum-requires
+    cam-edge-requires
     cast-edge
-    datum-requires-2
+    datum-requires
     cast-tolerance
     cast-position
     add-if1

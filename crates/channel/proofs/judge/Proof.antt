@@ -1,5 +1,5 @@
 -- `channel::judge` meets its contract. Assumes nothing.
-use Rattle.channel.specs.Causes.{choiceIn, differingIn, differsIn, faultIn, usableRows, judgedOf}
+use Rattle.channel.specs.Causes.{choiceIn, differingIn, differsIn, faultIn, judgedOf}
 use borrow.Author.Needs.{needs}
 use Rattle.channel.proofs.judge.Statement.{statement}
 use Rattle.channel.proofs.judge.Tie as tie
@@ -34,42 +34,15 @@ any-of-requires c κs = search needs
 next-requires-2 : tie.Need-next-requires-2
 next-requires-2 c κs = search needs
 
-limit-tally-requires : tie.Need-limit-tally-requires
-limit-tally-requires c κs = search needs
-
-externals-requires : tie.Need-externals-requires
-externals-requires c κs = search needs
-
-slipped-requires : tie.Need-slipped-requires
-slipped-requires c κs = search needs
-
 expired-requires : tie.Need-expired-requires
 expired-requires c κs = search needs
 
-compared-requires : tie.Need-compared-requires
-compared-requires c κs = search needs
+found-requires : tie.Need-found-requires
+found-requires c κs = search needs
 
 returns : tie.Need-returns
-unfolding choiceIn differingIn differsIn faultIn usableRows judgedOf
-returns c = simp (c .compared .ensures, c .before .expired .ensures, c .before .before .slipped .ensures, c .before .before .before .externals .ensures, c .before .before .before .before .limit-tally .ensures, c .before .before .before .before .before .next2 .ensures, c .before .before .before .before .before .before .any-of .ensures, c .before .before .before .before .before .before .before .datum-differs .ensures, c .before .before .before .before .before .before .before .before .before .inputs-differ .ensures, c .before .before .before .before .before .before .before .before .before .before .run .ensures, c .before .before .before .before .before .before .before .before .before .before .before .position-differs .ensures, c .before .before .before .before .before .before .before .before .before .before .before .before .next .ensures, c .before .before .before .before .before .before .before .before .before .before .before .before .before .selected .ensures, c .before .before .before .before .before .before .before .before .before .before .before .before .before .before .moved .ensures)
+unfolding choiceIn differingIn differsIn faultIn judgedOf
+returns c = simp (c .found .ensures, c .before .expired .ensures, c .before .before .next2 .ensures, c .before .before .before .any-of .ensures, c .before .before .before .before .datum-differs .ensures, c .before .before .before .before .before .before .inputs-differ .ensures, c .before .before .before .before .before .before .before .run .ensures, c .before .before .before .before .before .before .before .before .position-differs .ensures, c .before .before .before .before .before .before .before .before .before .next .ensures, c .before .before .before .before .before .before .before .before .before .before .selected .ensures, c .before .before .before .before .before .before .before .before .before .before .before .moved .ensures)
 
 pub judge-spec : {M : Type 1} → statement M
-judge-spec =
-    tie.close
-    (tie.spec
-    moved-requires
-    selected-requires
-    next-requires
-    position-differs-requires
-    run-requires
-    inputs-differ-requires
-    cast-datum-differs
-    datum-differs-requires
-    any-of-requires
-    next-requires-2
-    limit-tally-requires
-    externals-requires
-    slipped-requires
-    expired-requires
-    compared-requires
-    returns)
+judge-spec = tie.close (tie.spec moved-requires selected-requires next-requires position-differs-requires run-requires inputs-differ-requires cast-datum-differs datum-differs-requires any-of-requires next-requires-2 expired-requires found-requires returns)

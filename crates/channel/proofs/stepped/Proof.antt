@@ -6,6 +6,9 @@ use borrow.Author.Needs.{needs}
 use Rattle.channel.proofs.stepped.Statement.{statement}
 use Rattle.channel.proofs.stepped.Tie as tie
 
+tally-requires : tie.Need-tally-requires
+tally-requires c κs = search needs
+
 clears-requires : tie.Need-clears-requires
 clears-requires c κs = search needs
 
@@ -25,14 +28,15 @@ next-requires-2 : tie.Need-next-requires-2
 next-requires-2 c κs = search needs
 
 returns : tie.Need-returns
-returns c = let s = c .before .before .before .before .before .before .before .before .before .before .before in
+returns c = let s = c .before .before .before .before .before .before .before .before .before .before .before .before in
     let fp : SFits w32 (s .args .given .reading .position) = search needs in
-    simp (toZ-ofZ fp) (simp (c .next2 .ensures, c .before .cleared .ensures, c .before .before .before .next-k .ensures, c .before .before .before .before .next .ensures, c .before .before .before .before .before .below .ensures, c .before .before .before .before .before .before .clears .ensures))
+    simp (toZ-ofZ fp) (simp (c .next2 .ensures, c .before .cleared .ensures, c .before .before .before .next-k .ensures, c .before .before .before .before .next .ensures, c .before .before .before .before .before .below .ensures, c .before .before .before .before .before .before .clears .ensures, c .before .before .before .before .before .before .before .before .before .tally .ensures))
 
 pub stepped-spec : {M : Type 1} → statement M
 stepped-spec =
     tie.close
     (tie.spec
+    tally-requires
     clears-requires
     below-requires
     next-requires

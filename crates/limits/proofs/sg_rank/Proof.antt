@@ -10,14 +10,8 @@ enum-told c = search needs
 enum-known-effective : tie.Need-enum-known-effective
 enum-known-effective c = search needs
 
-cast-number : tie.Need-cast-number
-cast-number c = search needs
-
-add-number : tie.Need-add-number
-add-number c = search needs
-
-number-requires : tie.Need-number-requires
-number-requires c κs = search needs
+sg-stop-requires : tie.Need-sg-stop-requires
+sg-stop-requires c κs = search needs
 
 from-number-requires : tie.Need-from-number-requires
 from-number-requires c κs = search needs
@@ -29,7 +23,7 @@ returns : tie.Need-returns
 returns c = search needs
 
 returns-2 : tie.Need-returns-2
-returns-2 c = c .from-number .ensures ∙ simp (c .before .number .ensures, c .before .before .before .effective .given .1)
+returns-2 c = c .from-number .ensures ∙ simp (c .before .sg-stop .ensures, c .before .before .before .effective .given .1)
 
 returns-3 : tie.Need-returns-3
 returns-3 c = search needs
@@ -40,9 +34,7 @@ sg-rank-spec =
     (tie.spec
     enum-told
     enum-known-effective
-    cast-number
-    add-number
-    number-requires
+    sg-stop-requires
     from-number-requires
     enum-told-2
     returns

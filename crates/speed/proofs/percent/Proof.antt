@@ -8,19 +8,13 @@ use borrow.Author.Needs.{needs}
 use Rattle.speed.proofs.percent.Statement.{statement}
 use Rattle.speed.proofs.percent.Tie as tie
 
-cast-number : tie.Need-cast-number
-cast-number c = search needs
-
-add-number : tie.Need-add-number
-add-number c = search needs
-
-number-requires : tie.Need-number-requires
-number-requires c κs = search needs
+percent-requires : tie.Need-percent-requires
+percent-requires c κs = search needs
 
 returns : tie.Need-returns
 unfolding percentOf
 returns c = let h : c .before .before .args .n % 2 ≡ 1 = omega arith in
-    c .number .ensures ∙ simp (eq-eqb _ 1 h)
+    c .percent .ensures ∙ simp (eq-eqb _ 1 h)
 
 returns-2 : tie.Need-returns-2
 unfolding percentOf
@@ -28,4 +22,4 @@ returns-2 c = let h : c .before .args .n % 2 ≡ 1 → ⊥ = omega arith in
     simp (ne-eqb _ 1 h)
 
 pub percent-spec : {M : Type 1} → statement M
-percent-spec = tie.close (tie.spec cast-number add-number number-requires returns returns-2)
+percent-spec = tie.close (tie.spec percent-requires returns returns-2)

@@ -5,21 +5,15 @@ use borrow.Author.Needs.{needs}
 use Rattle.speed.proofs.sg_speed.Statement.{statement}
 use Rattle.speed.proofs.sg_speed.Tie as tie
 
-cast-number : tie.Need-cast-number
-cast-number c = search needs
-
-add-number : tie.Need-add-number
-add-number c = search needs
-
-number-requires : tie.Need-number-requires
-number-requires c κs = search needs
+sg-limit-requires : tie.Need-sg-limit-requires
+sg-limit-requires c κs = search needs
 
 percent-requires : tie.Need-percent-requires
 percent-requires c κs = search needs
 
 mul-result : tie.Need-mul-result
 mul-result c = let s = c .before .before .args in
-    rw (c .before .number .ensures, c .percent .ensures) (product-fits (number-most (s .machine .now) _) (percent-small (s .machine .now) (s .n) (s .o)))
+    rw (c .before .sg-limit .ensures, c .percent .ensures) (product-fits (number-most (s .machine .now) _) (percent-small (s .machine .now) (s .n) (s .o)))
 
 returns : tie.Need-returns
 unfolding speedOf
@@ -27,4 +21,4 @@ returns c = cc
 
 pub sg-speed-spec : {M : Type 1} → statement M
 sg-speed-spec =
-    tie.close (tie.spec cast-number add-number number-requires percent-requires mul-result returns)
+    tie.close (tie.spec sg-limit-requires percent-requires mul-result returns)

@@ -1,0 +1,36 @@
+-- Of two selections that are the same SG with the same override neither is the stricter. Assumes nothing.
+use mathlib.Core.Path.{_≡_, refl, sym, ap, _∙_}
+use mathlib.Core.Bool.{Bool, true, false, _&&_}
+use mathlib.Core.List.{List}
+use Prim.Native.Nat.{ℕ}
+use native.Mathlib.Omega.{arith}
+use lib.IntN.{ℤ}
+use lib.Dec.{ltb, eqb}
+use borrow.Author.Tests.{le-ltb, eqb-true}
+use Rattle.speed.specs.Speed.{speedOf}
+use Rattle.selection.specs.declared.Selection.{Selection}
+use Rattle.selection.specs.declared.Selection.the-variants.{Nothing, Sg, Sbh}
+use Rattle.selection.specs.Selection.{allowanceOf, stricter, sameSg}
+
+never : {X : Type 0} → _≡_ {A = ℕ} 0 1 → X
+never z = absurd (go z)
+  where
+    go : _≡_ {A = ℕ} 0 1 → ⊥
+    go y = omega arith
+
+both : (a b : Bool) → a && b ≡ true → (a ≡ true) × (b ≡ true)
+both true b e = (refl, e)
+both false b e = never (cc)
+
+equal : (x y : ℕ) → x ≡ y → ltb x y ≡ false
+equal x y e = le-ltb x y (omega (arith, e))
+
+pub same-no-stricter : (d : List ℤ) (s e : Selection) → sameSg s e ≡ true → false ≡ stricter d s e
+unfolding stricter
+same-no-stricter d Nothing e h = never (cc)
+same-no-stricter d (Sg n o) Nothing h = never (cc)
+same-no-stricter d (Sg n o) (Sg m p) h =
+    let q = both (eqb m n) (eqb p o) h in
+    sym (equal (speedOf d n o) (speedOf d m p) (λ i. speedOf d (sym (eqb-true m n (q .0)) i) (sym (eqb-true p o (q .1)) i)))
+same-no-stricter d (Sg n o) Sbh h = never (cc)
+same-no-stricter d Sbh e h = never (cc)

@@ -51,6 +51,19 @@ reportOf d s r = record { position = r .position; inputs = r .inputs; datum = en
 abbrev pub nextK : ℕ → ℕ
 nextK k = cond (ltb k 50) (suc k) 0
 
+-- "Unusable: cause 1, rank 5, not held. The previous position is forgotten; counts, runs, F, selections, references and cams stay; steps 2 to 5 are skipped"
+abbrev pub unusableNext : State → State
+unusableNext s =
+    record {
+      k = nextK (s .k);
+      previous = Nowhere;
+      choice = s .choice;
+      differing = s .differing;
+      fault = s .fault;
+      stop = Cancelled;
+      cams = s .cams;
+    }
+
 -- the strongest cause of a cycle
 unfoldable pub strongestIn : List ℤ → State → Given → Rank
 strongestIn d s g = strongestOf (rowsOf d s g)
@@ -68,19 +81,6 @@ enteredIn d s g =
 abbrev pub clearedFault : Bool → Fault → Fault
 clearedFault clears f = cond clears (record { on = false; left = 0 }) f
 
--- step 1: "The previous position is forgotten; counts, runs, F, selections, references and cams stay"
-abbrev pub unusableNext : State → State
-unusableNext s =
-    record {
-      k = nextK (s .k);
-      previous = Nowhere;
-      choice = s .choice;
-      differing = s .differing;
-      fault = s .fault;
-      stop = Cancelled;
-      cams = s .cams;
-    }
-
 -- steps 5 and 6, by what steps 2 to 4 found
 abbrev pub usableNext : List ℤ → State → Given → Bool → Rank → State
 usableNext d s g clears strongest =
@@ -93,6 +93,15 @@ usableNext d s g clears strongest =
       stop = stopNext d clears strongest (slower d (movedOf (s .previous) (g .reading .position)) 33) (g .reading .position) (s .stop);
       cams = camsNext d (g .reading .position) (s .cams);
     }
+
+-- the state after a cycle
+unfoldable pub next : List ℤ → State → Given → State
+next d s g =
+    cond (usableOf (g .reading))
+    (usableNext d s g (clearsIn d s g) (strongestIn d s g))
+    (unusableNext s)
+
+-- ---- of the private functions: the same, from what the code found
 
 -- the tally of what was judged
 abbrev pub tallyOf : Judged → Tally
@@ -110,10 +119,3 @@ steppedOf d s g j =
       stop = stopNext d (g .acknowledged && not (tallyOf j .fresh)) (tallyOf j .strongest) (slower d (j .moved) 33) (g .reading .position) (s .stop);
       cams = camsNext d (g .reading .position) (s .cams);
     }
-
--- the state after a cycle
-unfoldable pub next : List ℤ → State → Given → State
-next d s g =
-    cond (usableOf (g .reading))
-    (usableNext d s g (clearsIn d s g) (strongestIn d s g))
-    (unusableNext s)

@@ -88,7 +88,7 @@ fn run_records<'a>(
     let mut at = 0usize;
     let mut next = 0usize;
     while at < words.len() {
-        if words[at] / 268435456 == 4 {
+        if records::begins_record(words[at]) {
             let r = record_at(words, at);
             let ra = r.a;
             let rb = r.b;

@@ -1,7 +1,7 @@
 -- Seven words of a record's kinds are a record, and its words hold what the record says. Assumes nothing.
 use mathlib.Core.Path.{_≡_, refl, sym, ap, _∙_, subst}
-use mathlib.Core.Bool.{Bool, true, false, _&&_}
-use mathlib.Core.List.{List}
+use mathlib.Core.Bool.{Bool, true, false, _&&_, true≢false}
+use mathlib.Core.List.{List, [], _∷_}
 use Prim.Native.Nat.{ℕ, _+_, _*_, _/_, _%_, _<_}
 use native.Mathlib.Omega.{arith}
 use lib.ListN.{length, getD}
@@ -14,6 +14,8 @@ use Rattle.words.specs.declared.Word.{Word}
 use Rattle.words.specs.declared.Word.the-variants as W
 use Rattle.words.specs.Words.{twos, wordOf, wordAt}
 use Rattle.words.specs.IsWord.{kinded, IsWord, position, lower, upper, end, remark}
+use Rattle.words.specs.Cases.{ifPosition}
+use Rattle.words.proofs.Cases.{is-position}
 use Rattle.words.proofs.IsWord.{reads, read-at}
 use Rattle.inputs.specs.declared.Reading.{Reading}
 use Rattle.records.specs.declared.CycleRecord.{CycleRecord}
@@ -21,7 +23,7 @@ use Rattle.records.specs.declared.InputsRead as I
 use Rattle.records.specs.declared.Entry as E
 use Rattle.records.specs.declared.Mark as M
 use Rattle.records.specs.Records.{inputsAt, entryAt}
-use Rattle.records.specs.Seven.{readingOf, isReading, isRecord, recordFrom, markOf}
+use Rattle.records.specs.Seven.{beginsRecord, readingOf, isReading, isRecord, recordFrom, markOf}
 use Rattle.records.proofs.Parts.{both-halves, halves, ending-is, other-is, entry-is}
 use Rattle.records.proofs.Scanning.{Read, read}
 use Rattle.records.proofs.Logs.{remark-at}
@@ -112,6 +114,17 @@ upper-held (upper h) = omega arith
 
 end-held : {w : ℕ} {a : Bool} → IsWord w (W.End a) → eqb (w % 2) 1 ≡ a
 end-held (end {b} h) = let e : kinded 7 b % 2 ≡ b = omega arith in ap (λ (n : ℕ). eqb n 1) e
+
+-- a word begins a record where its kind is 4
+pub begins-kind : (w : ℕ) → beginsRecord w ≡ true → w / 268435456 ≡ 4
+unfolding beginsRecord
+begins-kind w e =
+    let p = is-position (wordOf w) (λ z. true) false true e (λ f. true≢false (sym f)) in
+    position-held (subst (λ (v : ℕ). IsWord v (W.Position (p .0))) refl (read-at (w ∷ []) 0 (at-word (w ∷ []) 0 (omega arith) (p .1)) (λ y. never (cc)))) .0
+
+pub begins-not : (w : ℕ) → beginsRecord w ≡ false → w / 268435456 ≡ 4 → ⊥
+unfolding beginsRecord
+begins-not w e k = true≢false (sym (ap (λ (x : Word). ifPosition x (λ z. true) false) (of-position w k)) ∙ e)
 
 remark-held : {w : ℕ} → IsWord w W.Remark → w / 268435456 ≡ 15
 remark-held (remark h) = omega arith

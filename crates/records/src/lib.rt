@@ -3,7 +3,7 @@ ghost use mathlib.Core.Path.{_≡_};
 ghost use Prim.Native.Nat.{_≤_};
 ghost use lib.ListN.{length};
 ghost use Rattle.records.specs.Records.{inputsAt, endingAt, otherAt, betweenOf, entryAt, scanOf};
-ghost use Rattle.records.specs.Seven.{readingOf, isReading, isRecord, markOf};
+ghost use Rattle.records.specs.Seven.{beginsRecord, readingOf, isReading, isRecord, markOf};
 use inputs::Reading;
 use words::Word;
 
@@ -100,6 +100,16 @@ pub fn entry_at(words: &[u32], at: usize) -> Entry
     }
 }
 
+// Whether a word begins a record; in a sound log the others are remarks, which go another way.
+pub fn begins_record(first: u32) -> bool
+    ensures { λ r. ⌜ r ≡ beginsRecord first ⌝ }
+{
+    let Word::Position(_) = words::word_of(first) else {
+        return false;
+    };
+    true
+}
+
 // What three words of a record hold: a position, and the two halves of an input word.
 pub fn reading_of(position: u32, lower: u32, upper: u32) -> Reading
     ensures { λ r. ⌜ r ≡ readingOf position lower upper ⌝ }
@@ -110,7 +120,7 @@ pub fn reading_of(position: u32, lower: u32, upper: u32) -> Reading
     }
 }
 
-// Whether three words are of the kinds of a record's part.
+// Whether three words are of the kinds of a record's part, with their unused bits 0.
 fn is_reading(position: u32, lower: u32, upper: u32) -> bool
     ensures { λ r. ⌜ r ≡ isReading position lower upper ⌝ }
 {
@@ -123,7 +133,7 @@ fn is_reading(position: u32, lower: u32, upper: u32) -> bool
     upper / 65536 == 24576
 }
 
-// Whether the words from a place on are of the kinds of a record.
+// Whether the words from a place on are a record, by their kinds and unused bits.
 fn is_record(words: &[u32], at: usize) -> bool
     requires { ⌜ at ≤ length (now words) ⌝ }
     ensures { λ r. ⌜ r ≡ isRecord (now (words .entry)) at ⌝ }
@@ -152,7 +162,7 @@ fn mark_of(entry: Entry) -> Mark
     }
 }
 
-// The kind of the entry at a place: a record is found by its words' kinds alone.
+// The kind of the entry at a place: a record is found without taking its words apart.
 fn mark_at(words: &[u32], at: usize) -> Mark
     requires { ⌜ at ≤ length (now words) ⌝ }
     ensures { λ r. ⌜ r ≡ markOf (entryAt (now (words .entry)) at) ⌝ }

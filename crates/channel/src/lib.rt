@@ -29,7 +29,7 @@ pub struct State {
     pub previous: Previous,
     pub choice: Choice,
     // usable cycles running in which the input words differ
-    pub differing: u64,
+    pub differing: u32,
     pub fault: Fault,
     pub stop: Stop,
     // the cam signals as bits, in data order
@@ -52,7 +52,7 @@ pub struct Given {
 pub struct Judged {
     pub moved: u32,
     pub choice: Choice,
-    pub differing: u64,
+    pub differing: u32,
     pub fault: Fault,
     pub found: Found,
 }

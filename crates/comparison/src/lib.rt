@@ -10,7 +10,7 @@ use inputs::Report;
 // F, and the cycles left to cause 13.
 pub struct Fault {
     pub on: bool,
-    pub left: u64,
+    pub left: u32,
 }
 
 // Cause 10.
@@ -22,7 +22,7 @@ pub fn position_differs(machine: &[i32; 51], reading: Reading, report: Report) -
 }
 
 // For how many usable cycles running the input words differ. It stops at 1,001, which is above every datum 28.
-pub fn run(before: u64, reading: Reading, report: Report) -> u64
+pub fn run(before: u32, reading: Reading, report: Report) -> u32
     ensures { λ r. ⌜ r ≡ runOf before reading report ⌝ }
 {
     if reading.inputs == report.inputs {
@@ -32,10 +32,10 @@ pub fn run(before: u64, reading: Reading, report: Report) -> u64
 }
 
 // Cause 11.
-pub fn inputs_differ(machine: &[i32; 51], run: u64) -> bool
+pub fn inputs_differ(machine: &[i32; 51], run: u32) -> bool
     ensures { λ r. ⌜ r ≡ inputsDiffer (now (machine .entry)) run ⌝ }
 {
-    machine_data::number(machine, 28) < run
+    machine_data::cycles(machine, 28) < run
 }
 
 // Cause 12.
@@ -47,12 +47,12 @@ pub fn datum_differs(machine: &[i32; 51], k: usize, report: Report) -> bool
 
 impl Fault {
     // The cycles left: datum 34 where F is new, else one less.
-    fn count(self, machine: &[i32; 51], new: bool) -> u64
+    fn count(self, machine: &[i32; 51], new: bool) -> u32
         ensures { λ r. ⌜ r ≡ cond new (numberOf (now (machine .entry)) 34) (self .left - 1) ⌝ }
     {
         let left = self.left;
         if new {
-            machine_data::number(machine, 34)
+            machine_data::cycles(machine, 34)
         } else if left == 0 {
             0
         } else {

@@ -1,3 +1,4 @@
 pub mod Ends
 pub mod Tests
 pub mod Stands
+pub mod Bounds

@@ -126,6 +126,13 @@ pub fn number(values: &[i32; 51], k: usize) -> u64
     size(datum(values, k))
 }
 
+// Datum k as a count of cycles, in a type that keeps a channel's state small.
+pub fn cycles(values: &[i32; 51], k: usize) -> u32
+    ensures { λ r. ⌜ r ≡ numberOf (now (values .entry)) k ⌝ }
+{
+    number(values, k) as u32
+}
+
 // The limit of SG n + 1.
 pub fn sg_limit(values: &[i32; 51], n: u8) -> u64
     ensures { λ r. ⌜ r ≡ numberOf (now (values .entry)) (3 + n % 4) ⌝ }

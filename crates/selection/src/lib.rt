@@ -15,7 +15,7 @@ pub struct Choice {
     pub chosen: bool,
     pub effective: Selection,
     pub reference: i32,
-    pub left: u64,
+    pub left: u32,
 }
 
 // What an input word selects.
@@ -110,19 +110,19 @@ impl Choice {
     }
 
     // The count of a lowering: datum 27 where none is under way, else one less.
-    fn count(self, machine: &[i32; 51]) -> u64
+    fn count(self, machine: &[i32; 51]) -> u32
         ensures { λ r. ⌜ r ≡ countOf (now (machine .entry)) (self .left) ⌝ }
     {
         let running = self.left;
         if running == 0 {
-            machine_data::number(machine, 27)
+            machine_data::cycles(machine, 27)
         } else {
             running - 1
         }
     }
 
     // A stricter selection s, with the count at left.
-    fn waited(self, s: Selection, reading: Reading, left: u64) -> Choice
+    fn waited(self, s: Selection, reading: Reading, left: u32) -> Choice
         ensures { λ r. ⌜ r ≡ waitedOf self s (reading .position) left ⌝ }
     {
         if left == 0 {

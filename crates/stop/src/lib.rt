@@ -72,15 +72,15 @@ impl Rank {
     }
 
     // The time of a stop, in cycles. A has none.
-    pub fn time(self, machine: &[i32; 51]) -> u64
+    pub fn time(self, machine: &[i32; 51]) -> u32
         ensures { λ r. ⌜ r ≡ timeOf (now (machine .entry)) self ⌝ }
     {
         match self {
             Rank::None => 0,
-            Rank::E => machine_data::number(machine, Rank::TIME_E),
-            Rank::D => machine_data::number(machine, Rank::TIME_D),
-            Rank::C => machine_data::number(machine, Rank::TIME_C),
-            Rank::B => machine_data::number(machine, Rank::TIME_B),
+            Rank::E => machine_data::cycles(machine, Rank::TIME_E),
+            Rank::D => machine_data::cycles(machine, Rank::TIME_D),
+            Rank::C => machine_data::cycles(machine, Rank::TIME_C),
+            Rank::B => machine_data::cycles(machine, Rank::TIME_B),
             Rank::A => 0,
         }
     }
@@ -90,14 +90,14 @@ pub enum Stop {
     // Rank 0.
     Free,
     // Entered, with the cycles left.
-    Braking(Rank, u64),
+    Braking(Rank, u32),
     // Held, with the reference position.
     Held(Rank, i32),
     // Rank 5: pulses cancelled.
     Cancelled,
 }
 
-fn less_one(n: u64) -> u64
+fn less_one(n: u32) -> u32
     ensures { λ r. ⌜ r ≡ n - 1 ⌝ }
 {
     if n == 0 { 0 } else { n - 1 }
@@ -135,7 +135,7 @@ impl Stop {
     }
 
     // C, D and E are held at count 0.
-    fn held_at(r: Rank, n: u64, reading: Reading) -> Stop
+    fn held_at(r: Rank, n: u32, reading: Reading) -> Stop
         ensures { λ s. ⌜ s ≡ heldAt (reading .position) r n ⌝ }
     {
         if n == 0 {
@@ -146,7 +146,7 @@ impl Stop {
     }
 
     // B becomes A at count 0, or where the axis is slow.
-    fn braked_at(n: u64, slow: bool) -> Stop
+    fn braked_at(n: u32, slow: bool) -> Stop
         ensures { λ s. ⌜ s ≡ brakedAt slow n ⌝ }
     {
         if n == 0 {
@@ -159,7 +159,7 @@ impl Stop {
     }
 
     // A stop of rank r with n cycles left.
-    fn at_count(r: Rank, n: u64, slow: bool, reading: Reading) -> Stop
+    fn at_count(r: Rank, n: u32, slow: bool, reading: Reading) -> Stop
         ensures { λ s. ⌜ s ≡ atCount slow (reading .position) r n ⌝ }
     {
         match r {

@@ -4,12 +4,12 @@ use borrow.Author.Needs.{needs}
 use Rattle.comparison.proofs.inputs_differ.Statement.{statement}
 use Rattle.comparison.proofs.inputs_differ.Tie as tie
 
-number-requires : tie.Need-number-requires
-number-requires c κs = search needs
+cycles-requires : tie.Need-cycles-requires
+cycles-requires c κs = search needs
 
 returns : tie.Need-returns
 unfolding inputsDiffer
-returns c = rw (c .number .ensures)
+returns c = rw (c .cycles .ensures)
 
 pub inputs-differ-spec : {M : Type 1} → statement M
-inputs-differ-spec = tie.close (tie.spec number-requires returns)
+inputs-differ-spec = tie.close (tie.spec cycles-requires returns)

@@ -1,6 +1,7 @@
 -- `speed::below` meets its contract: both products fit, whatever the datum. Assumes nothing.
 use Rattle.speed.specs.Speed.{slower}
-use Rattle.speed.proofs.Bounds.{number-most, product-fits}
+use Rattle.machine_data.proofs.Bounds.{number-most}
+use Rattle.speed.proofs.Bounds.{product-fits}
 use borrow.Author.Needs.{needs}
 use Rattle.speed.proofs.below.Statement.{statement}
 use Rattle.speed.proofs.below.Tie as tie

@@ -1,6 +1,7 @@
 -- `speed::sg_speed` meets its contract: the product fits, since no datum is above 100,000,000. Assumes nothing.
 use Rattle.speed.specs.Speed.{speedOf}
-use Rattle.speed.proofs.Bounds.{number-most, percent-small, product-fits}
+use Rattle.machine_data.proofs.Bounds.{number-most}
+use Rattle.speed.proofs.Bounds.{percent-small, product-fits}
 use borrow.Author.Needs.{needs}
 use Rattle.speed.proofs.sg_speed.Statement.{statement}
 use Rattle.speed.proofs.sg_speed.Tie as tie

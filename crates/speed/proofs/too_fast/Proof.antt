@@ -1,6 +1,7 @@
 -- `speed::too_fast` meets its contract: both products fit, by the bounds of its factors. Assumes nothing.
 use Rattle.speed.specs.Speed.{tooFast}
-use Rattle.speed.proofs.Bounds.{speed-most, number-most, product-fits}
+use Rattle.machine_data.proofs.Bounds.{number-most}
+use Rattle.speed.proofs.Bounds.{speed-most, product-fits}
 use borrow.Author.Needs.{needs}
 use Rattle.speed.proofs.too_fast.Statement.{statement}
 use Rattle.speed.proofs.too_fast.Tie as tie

@@ -5,14 +5,14 @@ use borrow.Author.Needs.{needs}
 use Rattle.comparison.proofs.Fault.count.Statement.{statement}
 use Rattle.comparison.proofs.Fault.count.Tie as tie
 
-number-requires : tie.Need-number-requires
-number-requires c κs = search needs
+cycles-requires : tie.Need-cycles-requires
+cycles-requires c κs = search needs
 
 sub-result : tie.Need-sub-result
 sub-result c = search needs
 
 returns : tie.Need-returns
-returns c = c .number .ensures ∙ simp (c .before .if1 .taken)
+returns c = c .cycles .ensures ∙ simp (c .before .if1 .taken)
 
 returns-2 : tie.Need-returns-2
 returns-2 c = simp (c .before .if1 .left) (omega arith)
@@ -21,4 +21,4 @@ returns-3 : tie.Need-returns-3
 returns-3 c = simp (c .before .if1 .left)
 
 pub count-spec : {M : Type 1} → statement M
-count-spec = tie.close (tie.spec number-requires sub-result returns returns-2 returns-3)
+count-spec = tie.close (tie.spec cycles-requires sub-result returns returns-2 returns-3)

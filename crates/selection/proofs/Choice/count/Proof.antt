@@ -6,17 +6,17 @@ use borrow.Author.Needs.{needs}
 use Rattle.selection.proofs.Choice.count.Statement.{statement}
 use Rattle.selection.proofs.Choice.count.Tie as tie
 
-number-requires : tie.Need-number-requires
-number-requires c κs = search needs
+cycles-requires : tie.Need-cycles-requires
+cycles-requires c κs = search needs
 
 sub-result : tie.Need-sub-result
 sub-result c = search needs
 
 returns : tie.Need-returns
-returns c = let z : c .before .before .args .self .left ≡ 0 = omega arith in c .number .ensures ∙ simp z
+returns c = let z : c .before .before .args .self .left ≡ 0 = omega arith in c .cycles .ensures ∙ simp z
 
 returns-2 : tie.Need-returns-2
 returns-2 c = falls _ _ (c .if1 .left)
 
 pub count-spec : {M : Type 1} → statement M
-count-spec = tie.close (tie.spec number-requires sub-result returns returns-2)
+count-spec = tie.close (tie.spec cycles-requires sub-result returns returns-2)

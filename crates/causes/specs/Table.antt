@@ -1,4 +1,4 @@
--- The table of causes 2 to 13, by what a usable cycle finds: document 01, step 4.
+-- The table of causes 2 to 13 of what the code found; the table of step 4 itself is `usableRows` of the crate channel.
 use Prim.Native.Nat.{ℕ}
 use mathlib.Core.Bool.{Bool, false, _||_}
 use mathlib.Core.List.{List, [], _∷_, _++_}
@@ -18,7 +18,7 @@ limitRows f = cause 2 (f .standstill) R.B ∷ cause 3 (f .speeding) (f .sg) ∷ 
 abbrev pub externalRows : Found → List Cause
 externalRows f = cause 5 (f .a) R.A ∷ cause 6 (f .c) R.C ∷ cause 7 (f .d) R.D ∷ cause 8 (f .e) R.E ∷ []
 
--- 9 to 13; 10, 11 and 12 have no rank of their own
+-- the hold, 9; the comparison, 10 to 13, of which 10, 11 and 12 have no rank of their own
 abbrev pub comparedRows : Found → List Cause
 comparedRows f =
     cause 9 (f .slipped) R.B

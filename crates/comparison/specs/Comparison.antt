@@ -21,7 +21,7 @@ runOf before r o = cond (eqb (r .inputs) (o .inputs)) 0 (min (before + 1) 1001)
 unfoldable pub inputsDiffer : List ℤ → ℕ → Bool
 inputsDiffer d run = ltb (numberOf d 28) run
 
--- "12 datum k differs"
+-- "12 datum k differs": the difference is not 0
 unfoldable pub datumDiffers : List ℤ → ℕ → Report → Bool
 datumDiffers d k o = ltb 0 (natAbs (entryOf d k -ℤ o .datum))
 

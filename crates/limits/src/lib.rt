@@ -1,4 +1,4 @@
-// The limits that a channel watches, causes 2 to 9: whether each is overstepped, and the rank of SG's stop.
+// Causes 2 to 9: whether each stands, and the rank of SG's stop.
 ghost use mathlib.Core.Path.{_≡_};
 ghost use Prim.Native.Nat.{_<_};
 ghost use Rattle.limits.specs.Limits.{standstill, overSpeed, sgRank, beyond, outside, external, slipped};

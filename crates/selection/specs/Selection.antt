@@ -11,13 +11,15 @@ use Rattle.selection.specs.declared.Selection.{Selection}
 use Rattle.selection.specs.declared.Selection.the-variants.{Nothing, Sg, Sbh}
 use Rattle.selection.specs.declared.Choice.{Choice}
 
--- "Selected: nothing if function 0 is off or input bit 0 is 1; else SBH if bit 1 is 0; else that SG"
+-- "Selected: nothing if function 0 is off or input bit 0 is 1; else SBH if bit 1 is 0; else that SG"; input bits "3-4 SG number less one", "28-31 override";
+-- "A selection of an SG is its number with its override number"
 unfoldable pub selectedOf : List ℤ → ℕ → Selection
 selectedOf d w =
     cond (not (functionOf d 0) || bitOf w 0) Nothing
     (cond (not (bitOf w 1)) Sbh (Sg (fieldOf w 3 4) (fieldOf w 28 16)))
 
--- "Order: nothing, SG by limit × percent, SBH strictest", as one number: the less is allowed, the stricter
+-- "Order: nothing, SG by limit × percent, SBH strictest", as one number: the less is allowed, the stricter. Nothing is one above the greatest
+-- limit × percent, 1,000,000 × 100
 abbrev pub allowanceOf : List ℤ → Selection → ℕ
 allowanceOf d Nothing = 100_000_001
 allowanceOf d (Sg n o) = speedOf d n o

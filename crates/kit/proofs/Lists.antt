@@ -6,6 +6,7 @@ use native.Mathlib.Nat.{le-of-eq}
 use native.Mathlib.Omega.{arith}
 use lib.ListN.{take, drop, length, length-drop}
 use lib.Seq.{take-all}
+use Rattle.words.proofs.Absurd.{never}
 use Rattle.list.specs.declared.ListRead.{ListRead}
 use Rattle.list.specs.declared.ListAnswer as A
 use Rattle.list.specs.Reading.{readList, acceptance}
@@ -40,12 +41,6 @@ module _ (s : List ℕ) {r : ListRead} (read : r ≡ readList s) where
     both-used {m} g =
         let b = used-words (drop n s) m (ap (λ (y : ListRead). y .answer) (sym there) ∙ g) in
         omega (arith, first-used h, length-drop n s)
-
-never : {X : Type 0} → _≡_ {A = ℕ} 0 1 → X
-never z = absurd (go z)
-  where
-    go : _≡_ {A = ℕ} 0 1 → ⊥
-    go y = omega arith
 
 -- a kit is accepted, with these data and the log from there on, if and only if it is one
 pub accepted-kit : (s : List ℕ) (vs us : List ℤ) (log : ℕ) → (readKit s ≡ accepting vs us log) ↔ IsKit s vs us log

@@ -8,17 +8,12 @@ use lib.ListN.{length, length-append}
 use lib.IntN.{ℤ}
 use lib.Dec.{ltb}
 use borrow.Author.Tests.{ltb-true}
+use Rattle.words.proofs.Absurd.{never}
 use Rattle.records.specs.declared.CycleRecord.{CycleRecord}
 use Rattle.records.specs.declared.Entry as E
 use Rattle.records.specs.Records.{entryAt, LogRead, records, fault, before, onEntry, logFrom, logOf}
 use Rattle.records.proofs.Scanning.{record-there}
 use Rattle.log.specs.Run.{turnOf, linesOf}
-
-never : {X : Type 0} → _≡_ {A = ℕ} 0 1 → X
-never z = absurd (go z)
-  where
-    go : _≡_ {A = ℕ} 0 1 → ⊥
-    go y = omega arith
 
 -- from a place on, the records fill what is left of the log at most
 abbrev Fill : List ℕ → ℕ → LogRead → Type 0

@@ -14,6 +14,7 @@ use lib.Signed.{ltZ, leZ, ltZ-yes, leZ-yes, ltZ-no, clashℤ}
 use lib.Dec.{T, ltb, eqb, ltb→lt}
 use lib.Ieee.Fits.{and-l}
 use lib.Ieee.Bits.{is-true}
+use Rattle.words.proofs.Absurd.{never}
 use Rattle.words.specs.declared.Word.{Word}
 use Rattle.words.specs.declared.Word.the-variants as W
 use Rattle.words.specs.Words.{wordAt}
@@ -30,12 +31,6 @@ use Rattle.list.specs.IsList.{DataFrom, end, datum, IsList, list}
 use Rattle.list.proofs.Steps.{ended-by, after-head}
 use Rattle.words.proofs.Front.{front-reads, front-is}
 use Rattle.list.proofs.Written.{written-reads, Wrote, read-written}
-
-never : {X : Type 0} → _≡_ {A = ℕ} 0 1 → X
-never z = absurd (go z)
-  where
-    go : _≡_ {A = ℕ} 0 1 → ⊥
-    go y = omega arith
 
 below-51 : (k : ℕ) (z : ℤ) → T (inRange k z) → k < 51
 unfolding inRange

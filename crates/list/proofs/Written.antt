@@ -13,6 +13,7 @@ use lib.Dec.{T, eqb}
 use lib.Ieee.{Float, binary32, binary64, ofBits}
 use lib.Ieee.Bits.{is-true}
 use borrow.Author.Tests.{lt-ltb, eqb-true}
+use Rattle.words.proofs.Absurd.{never}
 use Rattle.words.specs.declared.Word.{Word}
 use Rattle.words.specs.declared.Word.the-variants as W
 use Rattle.words.specs.Words.{wordOf, wordAt, twos}
@@ -148,12 +149,6 @@ pub record Wrote (s : List ℕ) (k at : ℕ) (z : ℤ) (next : ℕ) : Type 0 whe
   pub ranged : T (inRange k z)
   pub here : drop at s ≡ words ++ drop next s
   pub far : next ≡ at + length words
-
-never : {X : Type 0} → _≡_ {A = ℕ} 0 1 → X
-never z = absurd (go z)
-  where
-    go : _≡_ {A = ℕ} 0 1 → ⊥
-    go y = omega arith
 
 of-whole : (x : Float) (z : ℤ) → ofWhole (wholeOf x) ≡ U.the-variants.Are z → StandsFor x z
 of-whole x z = go (wholeOf x) refl

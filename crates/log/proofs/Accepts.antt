@@ -9,6 +9,7 @@ use native.Mathlib.Omega.{arith}
 use lib.ListN.{length}
 use lib.Dec.{ltb}
 use borrow.Author.Tests.{le-ltb, ltb-false}
+use Rattle.words.proofs.Absurd.{never}
 use Rattle.records.specs.declared.CycleRecord.{CycleRecord}
 use Rattle.records.specs.Records.{LogRead, records, fault, logOf}
 use Rattle.records.specs.IsLog.{IsLog}
@@ -16,12 +17,6 @@ use Rattle.records.proofs.Logs.{is-log}
 use Rattle.channel.specs.declared.Channel.{Channel}
 use Rattle.log.specs.declared.LogAnswer.the-variants.{Accepted}
 use Rattle.log.specs.Run.{refusing, running, byRecords, ranOf}
-
-never : {X : Type 0} → _≡_ {A = ℕ} 0 1 → X
-never z = absurd (go z)
-  where
-    go : _≡_ {A = ℕ} 0 1 → ⊥
-    go y = omega arith
 
 pub record IsAccepted (words out : List ℕ) (n : ℕ) : Type 0 where
   pub short : length words ≤ 16384

@@ -7,6 +7,7 @@ use native.Mathlib.Omega.{arith}
 use lib.ListN.{length}
 use lib.Dec.{ltb}
 use borrow.Author.Tests.{lt-ltb, le-ltb}
+use Rattle.words.proofs.Absurd.{never}
 use Rattle.records.specs.declared.CycleRecord.{CycleRecord}
 use Rattle.records.specs.declared.Entry as E
 use Rattle.records.specs.declared.Scan as S
@@ -17,12 +18,6 @@ use Rattle.log.specs.declared.LogRun.{LogRun}
 use Rattle.log.specs.declared.LogAnswer.the-variants.{Accepted}
 use Rattle.log.specs.Run.{Ran, bothOf, withState, refusing, running, byRecords, ranOf}
 use Rattle.log.specs.Ensures.{LogEnsures, refusedRun, Sound, Runs}
-
-never : {X : Type 0} → _≡_ {A = ℕ} 0 1 → X
-never z = absurd (go z)
-  where
-    go : _≡_ {A = ℕ} 0 1 → ⊥
-    go y = omega arith
 
 -- ---- the scan
 

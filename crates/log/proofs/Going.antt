@@ -6,6 +6,7 @@ use native.Mathlib.Omega.{arith}
 use lib.ListN.{length, getD, take, drop, take-append-drop}
 use lib.Seq.{drop-drop}
 use lib.IntN.{ℤ}
+use Rattle.words.proofs.Absurd.{never}
 use Rattle.channel.specs.declared.Given.{Given}
 use Rattle.channel.specs.declared.Advanced.{Advanced}
 use Rattle.channel.specs.Cycle.{next}
@@ -22,12 +23,6 @@ use Rattle.log.specs.declared.Both.{Both}
 use Rattle.log.specs.Run.{givenA, givenB, Turn, turnOf, lineOf, lastOf, linesOf}
 use Rattle.log.specs.Ensures.{Enough, Runs}
 use Rattle.log.proofs.Output.{taken, dropped, kept-length}
-
-never : {X : Type 0} → _≡_ {A = ℕ} 0 1 → X
-never z = absurd (go z)
-  where
-    go : _≡_ {A = ℕ} 0 1 → ⊥
-    go y = omega arith
 
 -- both channels' cycles and their device word are a turn
 pub turned : (da db : List ℤ) (x : Both) (r : CycleRecord) (ga gb : Given) (ta tb : Advanced) (w : ℕ) → ga ≡ givenA da db x r → gb ≡ givenB da db x r →

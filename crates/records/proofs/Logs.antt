@@ -9,6 +9,7 @@ use lib.ListN.{length, getD, drop, length-drop, drop-of-length-le}
 use lib.IntN.{ℤ}
 use lib.Dec.{ltb}
 use borrow.Author.Tests.{lt-ltb, le-ltb, ltb-true, ltb-false}
+use Rattle.words.proofs.Absurd.{never}
 use Rattle.words.specs.declared.Word.{Word}
 use Rattle.words.specs.declared.Word.the-variants as W
 use Rattle.words.specs.Words.{wordAt}
@@ -24,12 +25,6 @@ use Rattle.records.specs.Records.{inputsAt, onInputs, endingAt, otherAt,
 use Rattle.records.specs.IsLog.{IsReading, reading, IsLog, end, remark, cycle}
 use Rattle.records.proofs.Parts.{both-halves, halves, ending-is, other-is, entry-is, remark-is}
 use Rattle.records.proofs.Scanning.{read, record-there}
-
-never : {X : Type 0} → _≡_ {A = ℕ} 0 1 → X
-never z = absurd (go z)
-  where
-    go : _≡_ {A = ℕ} 0 1 → ⊥
-    go y = omega arith
 
 -- ---- what is written is read
 

@@ -8,6 +8,7 @@ use lib.ListN.{length}
 use lib.IntN.{ℤ}
 use denote.Enum.Declared.{tagOf}
 use types.Run.{OneOf}
+use Rattle.words.proofs.Absurd.{never}
 use Rattle.words.specs.declared.Word.{Word}
 use Rattle.words.specs.declared.Word.the-variants as W
 use Rattle.words.specs.Words.{wordAt}
@@ -18,12 +19,6 @@ use Rattle.inputs.specs.declared.Reading.{Reading}
 use Rattle.records.specs.declared.InputsRead as I
 use Rattle.records.specs.declared.Entry as E
 use Rattle.records.specs.Records.{inputsAt, onInputs, reading, endingAt, otherAt, betweenOf, entryAt}
-
-never : {X : Type 0} → _≡_ {A = ℕ} 0 1 → X
-never z = absurd (go z)
-  where
-    go : _≡_ {A = ℕ} 0 1 → ⊥
-    go y = omega arith
 
 pub position-there : (s : List ℕ) (at : ℕ) {p : ℤ} → wordAt s at ≡ W.Position p → at < length s
 position-there s at h = there s at (λ e. never (cc))

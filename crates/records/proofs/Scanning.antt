@@ -5,6 +5,7 @@ use Prim.Native.Nat.{ℕ, zero, suc, _+_, _≤_, _<_}
 use native.Mathlib.Omega.{arith}
 use lib.ListN.{length}
 use borrow.Author.Tests.{lt-ltb, le-ltb}
+use Rattle.words.proofs.Absurd.{never}
 use Rattle.words.specs.declared.Word.{Word}
 use Rattle.words.specs.declared.Word.the-variants as W
 use Rattle.words.specs.Words.{wordAt}
@@ -14,12 +15,6 @@ use Rattle.records.specs.declared.InputsRead as I
 use Rattle.records.specs.declared.Entry as E
 use Rattle.records.specs.declared.Scan as S
 use Rattle.records.specs.Records.{inputsAt, onInputs, reading, endingAt, otherAt, betweenOf, entryAt, LogRead, records, fault, before, onEntry, logFrom, counted}
-
-never : {X : Type 0} → _≡_ {A = ℕ} 0 1 → X
-never z = absurd (go z)
-  where
-    go : _≡_ {A = ℕ} 0 1 → ⊥
-    go y = omega arith
 
 -- ---- the words of a record that was read
 

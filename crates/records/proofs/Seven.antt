@@ -10,6 +10,7 @@ use lib.Dec.{T, ltb, eqb}
 use lib.Ieee.Fits.{and-l, and-r}
 use borrow.Author.Tests.{lt-ltb, eq-eqb, ltb-true, eqb-true}
 use lib.Ieee.Bits.{is-true}
+use Rattle.words.proofs.Absurd.{never}
 use Rattle.words.specs.declared.Word.{Word}
 use Rattle.words.specs.declared.Word.the-variants as W
 use Rattle.words.specs.Words.{twos, wordOf, wordAt}
@@ -27,12 +28,6 @@ use Rattle.records.specs.Seven.{beginsRecord, readingOf, isReading, isRe
 use Rattle.records.proofs.Parts.{both-halves, halves, ending-is, other-is, entry-is}
 use Rattle.records.proofs.Scanning.{Read, read}
 use Rattle.records.proofs.Logs.{remark-at}
-
-never : {X : Type 0} → _≡_ {A = ℕ} 0 1 → X
-never z = absurd (go z)
-  where
-    go : _≡_ {A = ℕ} 0 1 → ⊥
-    go y = omega arith
 
 -- ---- by their kinds
 

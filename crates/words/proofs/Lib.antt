@@ -2,3 +2,4 @@ pub mod Twos
 pub mod IsWord
 pub mod Cases
 pub mod Front
+pub mod Absurd

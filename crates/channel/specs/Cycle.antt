@@ -44,8 +44,8 @@ abbrev pub freshChannel : MachineData → Channel
 freshChannel m = record { machine = m; state = freshState }
 
 -- "A channel's report in a cycle is that cycle's position and whole input word and its datum k"
-abbrev pub reportOf : List ℤ → State → Reading → Report
-reportOf d s r = record { position = r .position; inputs = r .inputs; datum = entryOf d (s .k) }
+abbrev pub reportOf : List ℤ → ℕ → Reading → Report
+reportOf d k r = record { position = r .position; inputs = r .inputs; datum = entryOf d k }
 
 -- "k starts at 0, rises by one each cycle, and follows 50 by 0"
 abbrev pub nextK : ℕ → ℕ

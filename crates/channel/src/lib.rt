@@ -22,18 +22,19 @@ pub enum Previous {
     At(i32),
 }
 
-// What a cycle changes.
+// What a cycle changes. The previous position stands last: behind it a choice, which a cycle reads as one word, would be
+// read from memory that was just written in pieces.
 pub struct State {
     // the number of the datum that this cycle reports
     pub k: u8,
-    pub previous: Previous,
+    // the cam signals as bits, in data order
+    pub cams: u8,
     pub choice: Choice,
     // usable cycles running in which the input words differ
     pub differing: u32,
     pub fault: Fault,
     pub stop: Stop,
-    // the cam signals as bits, in data order
-    pub cams: u8,
+    pub previous: Previous,
 }
 
 pub struct Channel {
@@ -172,7 +173,8 @@ fn judge(machine: &[i32; 51], state: State, given: Given) -> Judged
     }
 }
 
-fn next_k(k: u8) -> u8
+// The number of the datum after k.
+pub fn next_k(k: u8) -> u8
     ensures { λ r. ⌜ r ≡ nextK k ⌝ }
 {
     if k < 50 { k + 1 } else { 0 }
@@ -318,14 +320,14 @@ pub fn fresh(machine: MachineData) -> Channel
     }
 }
 
-// What a channel reports of a cycle, before it.
-pub fn report(machine: &[i32; 51], state: State, reading: Reading) -> Report
-    ensures { λ r. ⌜ r ≡ reportOf (now (machine .entry)) state reading ⌝ }
+// What a channel reports of a cycle, with its k from before it.
+pub fn report(machine: &[i32; 51], k: u8, reading: Reading) -> Report
+    ensures { λ r. ⌜ r ≡ reportOf (now (machine .entry)) k reading ⌝ }
 {
     Report {
         position: reading.position,
         inputs: reading.inputs,
-        datum: machine_data::entry(machine, state.k as usize),
+        datum: machine_data::entry(machine, k as usize),
     }
 }
 

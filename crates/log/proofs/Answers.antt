@@ -1,10 +1,10 @@
 -- A log's answer by its length, its scan and the output's room. Assumes nothing.
 use mathlib.Core.Path.{_≡_, refl, sym, ap, _∙_}
 use mathlib.Core.Bool.{Bool, true, false, cond}
-use mathlib.Core.List.{List, [], _∷_}
+use mathlib.Core.List.{List, [], _∷_, _++_}
 use Prim.Native.Nat.{ℕ, zero, suc, _+_, _*_, _≤_, _<_}
 use native.Mathlib.Omega.{arith}
-use lib.ListN.{length}
+use lib.ListN.{length, drop}
 use lib.Dec.{ltb}
 use borrow.Author.Tests.{lt-ltb, le-ltb}
 use Rattle.words.proofs.Absurd.{never}
@@ -13,11 +13,14 @@ use Rattle.records.specs.declared.Entry as E
 use Rattle.records.specs.declared.Scan as S
 use Rattle.records.specs.Records.{entryAt, LogRead, records, fault, before, onEntry, logFrom, logOf, counted, scanOf}
 use Rattle.channel.specs.declared.Channel.{Channel}
-use Rattle.log.specs.declared.Both.{Both}
+use Rattle.channel.specs.declared.State.{State}
 use Rattle.log.specs.declared.LogRun.{LogRun}
 use Rattle.log.specs.declared.LogAnswer.the-variants.{Accepted}
-use Rattle.log.specs.Run.{Ran, bothOf, withState, refusing, running, byRecords, ranOf}
-use Rattle.log.specs.Ensures.{LogEnsures, refusedRun, Sound, Runs}
+use Rattle.log.specs.Run.{Both, Ran, bothOf, withState, refusing, running, byRecords, ranOf}
+use Rattle.log.specs.Alone.{wordsAlone, thirds, withDevices}
+use Rattle.log.specs.Ensures.{LogEnsures, refusedRun, Sound, RunsAlone}
+use Rattle.log.proofs.Thirds.{together}
+use Rattle.log.proofs.Apart.{as-many, lines-apart, last-apart}
 
 -- ---- the scan
 
@@ -96,15 +99,30 @@ module _ (a b : Channel) (words out : List ℕ) where
         let s = scanned words n e in
         record { rs = s .0; log = s .1; room = omega (arith, s .2); counted = s .2; short = short }
 
-  -- the run of the records, as the machine gives it back
-  pub ran : {n : ℕ} → Sound words out n → (y : Both) (out′ : List ℕ) → Runs (a .machine .values) (b .machine .values) (bothOf a b) words out y out′ →
-      LogEnsures a b words out (record { answer = Accepted n; a = withState a (y .a); b = withState b (y .b) }) out′
-  ran {n} s y out′ runs =
-      let r = runs (s .rs) (s .log) in
-      let is : ranOf a b words out ≡ running a b out (s .rs) = by-log (s .short) (s .log) ∙ simp (le-ltb (length out) (3 * length (s .rs)) (s .room)) in
-      record {
-        answer = ap Accepted (s .counted) ∙ sym (ap (λ (x : Ran). x .answer) is);
-        channel-a = ap (λ (z : Both). withState a (z .a)) (r .0) ∙ sym (ap (λ (x : Ran). x .a) is);
-        channel-b = ap (λ (z : Both). withState b (z .b)) (r .0) ∙ sym (ap (λ (x : Ran). x .b) is);
-        output = r .1 ∙ sym (ap (λ (x : Ran). x .out) is);
-      }
+  -- both channels run one after the other, then their device words, as the machine gives them back
+  module _ (la lb : State) (outa outb out′ : List ℕ) where
+    pub ran : {n : ℕ} → Sound words out n → RunsAlone a (b .machine .values) (b .state .k) false words out la outa → RunsAlone b (a .machine .values) (a .state .k) true words outa lb outb →
+        out′ ≡ withDevices 0 n outb → LogEnsures a b words out (record { answer = Accepted n; a = withState a la; b = withState b lb }) out′
+    ran {n} s runs-a runs-b devices =
+        let da = a .machine .values in
+        let db = b .machine .values in
+        let ra = runs-a (s .rs) (s .log) in
+        let rb = runs-b (s .rs) (s .log) in
+        let wa = wordsAlone false da db (a .state) (b .state .k) (s .rs) in
+        let wb = wordsAlone true db da (b .state) (a .state .k) (s .rs) in
+        let many-a : length wa ≡ length (s .rs) = as-many false da db (a .state) (b .state .k) (s .rs) in
+        let many-b : length wb ≡ length (s .rs) = as-many true db da (b .state) (a .state .k) (s .rs) in
+        let last = last-apart da db (bothOf a b) (s .rs) in
+        let is : ranOf a b words out ≡ running a b out (s .rs) = by-log (s .short) (s .log) ∙ simp (le-ltb (length out) (3 * length (s .rs)) (s .room)) in
+        record {
+          answer = ap Accepted (s .counted) ∙ sym (ap (λ (x : Ran). x .answer) is);
+          channel-a = ap (withState a) (ra .0 ∙ sym (ap (λ (x : Both). x .a) last)) ∙ sym (ap (λ (x : Ran). x .a) is);
+          channel-b = ap (withState b) (rb .0 ∙ sym (ap (λ (x : Both). x .b) last)) ∙ sym (ap (λ (x : Ran). x .b) is);
+          output =
+              devices
+              ∙ ap (withDevices 0 n) (rb .1 ∙ ap (thirds 1 wb) (ra .1))
+              ∙ ap (λ (i : ℕ). withDevices 0 i (thirds 1 wb (thirds 0 wa out))) (s .counted ∙ sym many-a)
+              ∙ together wa wb out (many-b ∙ sym many-a) (omega (arith, many-a, s .room))
+              ∙ (λ i. sym (lines-apart da db (bothOf a b) (s .rs)) i ++ drop (3 * many-a i) out)
+              ∙ sym (ap (λ (x : Ran). x .out) is);
+        }

@@ -1,161 +1,147 @@
--- The run of an accepted log, entry by entry: what is left to run gives, from here, what the whole log gives. Assumes nothing.
+-- One channel over an accepted log, entry by entry: what is left to run gives, from here, what the whole log gives. Assumes nothing.
 use mathlib.Core.Path.{_≡_, refl, sym, ap, _∙_, subst}
-use mathlib.Core.List.{List, [], _∷_, _++_, append-assoc, append-nil}
+use mathlib.Core.Bool.{Bool, true, false, cond}
+use mathlib.Core.List.{List, [], _∷_}
 use Prim.Native.Nat.{ℕ, _+_, _*_, _/_, _≤_, _<_}
 use native.Mathlib.Omega.{arith}
-use lib.ListN.{length, getD, take, drop, take-append-drop}
-use lib.Seq.{drop-drop}
+use lib.ListN.{length, getD, set, length-set}
 use lib.IntN.{ℤ}
 use Rattle.words.proofs.Absurd.{never}
+use Rattle.channel.specs.declared.Channel.{Channel}
+use Rattle.channel.specs.declared.State.{State}
 use Rattle.channel.specs.declared.Given.{Given}
 use Rattle.channel.specs.declared.Advanced.{Advanced}
-use Rattle.channel.specs.Cycle.{next}
+use Rattle.channel.specs.Cycle.{nextK, next}
 use Rattle.channel.specs.Word.{word}
 use Rattle.channel.specs.Ensures.{AdvanceEnsures}
-use Rattle.device.specs.Device.{deviceOf}
 use Rattle.records.specs.declared.CycleRecord.{CycleRecord}
 use Rattle.records.specs.declared.Entry as E
 use Rattle.records.specs.Records.{entryAt, LogRead, records, fault, before, logOf}
 use Rattle.records.specs.Seven.{recordFrom}
 use Rattle.records.proofs.Seven.{record-kind, remark-kind, holds}
-use Rattle.records.proofs.Scanning.{Rest, at-record, at-remark, at-bad, at-end}
-use Rattle.log.specs.declared.Both.{Both}
-use Rattle.log.specs.Run.{givenA, givenB, Turn, turnOf, lineOf, lastOf, linesOf}
-use Rattle.log.specs.Ensures.{Enough, Runs}
-use Rattle.log.proofs.Output.{taken, dropped, kept-length}
+use Rattle.records.proofs.Scanning.{Rest, record-there, at-record, at-remark, at-bad, at-end}
+use Rattle.log.specs.Alone.{givenIn, lastAlone, wordsAlone, thirds}
+use Rattle.log.specs.Ensures.{Enough, RunsAlone}
 
--- both channels' cycles and their device word are a turn
-pub turned : (da db : List ℤ) (x : Both) (r : CycleRecord) (ga gb : Given) (ta tb : Advanced) (w : ℕ) → ga ≡ givenA da db x r → gb ≡ givenB da db x r →
-    AdvanceEnsures da (x .a) ga ta → AdvanceEnsures db (x .b) gb tb → w ≡ deviceOf (ta .word) (tb .word) →
-    record { both = record { a = ta .state; b = tb .state }; a = ta .word; b = tb .word; device = w } ≡ turnOf da db x r
-unfolding turnOf
-turned da db x r ga gb ta tb w ea eb ha hb hw =
-    let wa = ha .word-is ∙ ap (word da (x .a)) ea in
-    let wb = hb .word-is ∙ ap (word db (x .b)) eb in
-    let sa = ha .state ∙ ap (next da (x .a)) ea in
-    let sb = hb .state ∙ ap (next db (x .b)) eb in
-    λ i. record { both = record { a = sa i; b = sb i }; a = wa i; b = wb i; device = (hw ∙ (λ j. deviceOf (wa j) (wb j))) i }
-
--- at a place of the words and of the output, with the states x there
-pub record Going (da db : List ℤ) (x₀ : Both) (words out₀ out : List ℕ) (x : Both) (at next : ℕ) : Type 0 where
+-- at a place of the words and of the output, with the state s and the other's k there
+pub record Going (second : Bool) (d e : List ℤ) (s₀ : State) (k₀ : ℕ) (words out₀ out : List ℕ) (s : State) (k at place : ℕ) : Type 0 where
   pub all : List CycleRecord
   pub rest : List CycleRecord
   pub log : logOf words ≡ records all
   pub left : Rest words at (records rest)
-  pub last : lastOf da db x rest ≡ lastOf da db x₀ all
-  pub lines : take next out ++ linesOf da db x rest ≡ linesOf da db x₀ all
-  pub behind : drop next out ≡ drop next out₀
-  pub count : next + 3 * length rest ≡ 3 * length all
+  pub last : lastAlone second d e s k rest ≡ lastAlone second d e s₀ k₀ all
+  pub put : thirds place (wordsAlone second d e s k rest) out ≡ thirds (cond second 1 0) (wordsAlone second d e s₀ k₀ all) out₀
+  pub count : place + 3 * length rest ≤ 1 + 3 * length all
   pub room : 3 * length all ≤ length out
 
-module _ (da db : List ℤ) (x₀ : Both) (words out₀ : List ℕ) where
-  pub starts : Enough words out₀ → Going da db x₀ words out₀ out₀ x₀ 0 0
-  starts e =
+module _ {second : Bool} {d e : List ℤ} {s₀ : State} {k₀ : ℕ} {words out₀ : List ℕ} where
+  pub starts : {place : ℕ} → Enough words out₀ → place ≡ cond second 1 0 → Going second d e s₀ k₀ words out₀ out₀ s₀ k₀ 0 place
+  starts {place} h first =
       record {
-        all = e .rs;
-        rest = e .rs;
-        log = e .log;
-        left = (length words, omega arith, e .log);
+        all = h .rs;
+        rest = h .rs;
+        log = h .log;
+        left = (length words, omega arith, h .log);
         last = refl;
-        lines = refl;
-        behind = refl;
-        count = omega arith;
-        room = e .room;
+        put = ap (λ (n : ℕ). thirds n (wordsAlone second d e s₀ k₀ (h .rs)) out₀) first;
+        count = omega (arith, first, at-most-1 second);
+        room = h .room;
       }
+    where
+      at-most-1 : (b : Bool) → cond b 1 0 ≤ 1
+      at-most-1 true = omega arith
+      at-most-1 false = omega arith
 
-  module _ (out : List ℕ) (x : Both) (at next : ℕ) (g : Going da db x₀ words out₀ out x at next) where
-    pub remarked : at < length words → entryAt words at ≡ E.the-variants.Remark → Going da db x₀ words out₀ out x (at + 1) next
-    remarked h e =
+  module _ {out : List ℕ} {s : State} {k at place : ℕ} (g : Going second d e s₀ k₀ words out₀ out s k at place) where
+    no-fault : {bad : ℕ} {X : Type 0} → at < length words → entryAt words at ≡ E.the-variants.Bad bad → X
+    no-fault {bad} h q = apart (at-bad words at (records (g .rest)) h q (g .left))
+      where
+        apart : {X : Type 0} → fault bad ≡ records (g .rest) → X
+        apart y = never (cc)
+
+    -- what stands here, by its first word's kind
+    record-here : at < length words → getD words at 0 / 268435456 ≡ 4 → entryAt words at ≡ E.the-variants.Record (recordFrom words at)
+    record-here h kind = go (entryAt words at) refl
+      where
+        go : (x : E.Entry) → entryAt words at ≡ x → entryAt words at ≡ E.the-variants.Record (recordFrom words at)
+        go (E.the-variants.Record r) q = q ∙ ap E.the-variants.Record (sym (holds words at r q))
+        go E.the-variants.Remark q = absurd (omega (arith, kind, remark-kind words at q))
+        go (E.the-variants.Bad bad) q = no-fault h q
+
+    remark-here : at < length words → (getD words at 0 / 268435456 ≡ 4 → ⊥) → entryAt words at ≡ E.the-variants.Remark
+    remark-here h other = go (entryAt words at) refl
+      where
+        go : (x : E.Entry) → entryAt words at ≡ x → entryAt words at ≡ E.the-variants.Remark
+        go (E.the-variants.Record r) q = absurd (other (record-kind words at r q))
+        go E.the-variants.Remark q = q
+        go (E.the-variants.Bad bad) q = no-fault h q
+
+    next-record : (r : CycleRecord) → at < length words → entryAt words at ≡ E.the-variants.Record r → (rs : List CycleRecord) × (g .rest ≡ r ∷ rs) × Rest words (at + 7) (records rs)
+    next-record r h q = let a = at-record words at (records (g .rest)) r h q (g .left) in go (a .0) (a .1) (a .2)
+      where
+        go : (l : LogRead) → Rest words (at + 7) l → before r l ≡ records (g .rest) → (rs : List CycleRecord) × (g .rest ≡ r ∷ rs) × Rest words (at + 7) (records rs)
+        go (records rs) l y = (rs, cc, l)
+        go (fault bad) l y = never (cc)
+
+    -- a record stands here whole, with room for its word
+    pub there : at < length words → getD words at 0 / 268435456 ≡ 4 → (at + 7 ≤ length words) × (place < length out)
+    there h kind =
+        let q = record-here h kind in
+        let n = next-record (recordFrom words at) h q in
+        (record-there words at (recordFrom words at) q, omega (arith, g .count, g .room, ap length (n .1)))
+
+    pub remarked : at < length words → (getD words at 0 / 268435456 ≡ 4 → ⊥) → Going second d e s₀ k₀ words out₀ out s k (at + 1) place
+    remarked h other =
         record {
           all = g .all;
           rest = g .rest;
           log = g .log;
-          left = at-remark words at (records (g .rest)) h e (g .left);
+          left = at-remark words at (records (g .rest)) h (remark-here h other) (g .left);
           last = g .last;
-          lines = g .lines;
-          behind = g .behind;
+          put = g .put;
           count = g .count;
           room = g .room;
         }
 
-    pub no-fault : {place : ℕ} {X : Type 0} → at < length words → entryAt words at ≡ E.the-variants.Bad place → X
-    no-fault {place} h e = apart (at-bad words at (records (g .rest)) h e (g .left))
-      where
-        apart : {X : Type 0} → fault place ≡ records (g .rest) → X
-        apart q = never (cc)
-
-    -- what stands here, by its first word's kind
-    pub record-here : at < length words → getD words at 0 / 268435456 ≡ 4 → entryAt words at ≡ E.the-variants.Record (recordFrom words at)
-    record-here h k = go (entryAt words at) refl
-      where
-        go : (x : E.Entry) → entryAt words at ≡ x → entryAt words at ≡ E.the-variants.Record (recordFrom words at)
-        go (E.the-variants.Record r) e = e ∙ ap E.the-variants.Record (sym (holds words at r e))
-        go E.the-variants.Remark e = absurd (omega (arith, k, remark-kind words at e))
-        go (E.the-variants.Bad place) e = no-fault h e
-
-    pub remark-here : at < length words → (getD words at 0 / 268435456 ≡ 4 → ⊥) → entryAt words at ≡ E.the-variants.Remark
-    remark-here h k = go (entryAt words at) refl
-      where
-        go : (x : E.Entry) → entryAt words at ≡ x → entryAt words at ≡ E.the-variants.Remark
-        go (E.the-variants.Record r) e = absurd (k (record-kind words at r e))
-        go E.the-variants.Remark e = e
-        go (E.the-variants.Bad place) e = no-fault h e
-
-    next-record : (r : CycleRecord) → at < length words → entryAt words at ≡ E.the-variants.Record r → (rs : List CycleRecord) × (g .rest ≡ r ∷ rs) × Rest words (at + 7) (records rs)
-    next-record r h e = let a = at-record words at (records (g .rest)) r h e (g .left) in go (a .0) (a .1) (a .2)
-      where
-        go : (k : LogRead) → Rest words (at + 7) k → before r k ≡ records (g .rest) → (rs : List CycleRecord) × (g .rest ≡ r ∷ rs) × Rest words (at + 7) (records rs)
-        go (records rs) l q = (rs, cc, l)
-        go (fault place) l q = never (cc)
-
-    pub record-room : (r : CycleRecord) → at < length words → entryAt words at ≡ E.the-variants.Record r → next + 3 ≤ length out
-    record-room r h e = let n = next-record r h e in omega (arith, g .count, g .room, ap length (n .1))
-
-    -- t is the turn as the machine has it, and the output its three words further
-    pub stepped : (r : CycleRecord) (t : Turn) → at < length words → entryAt words at ≡ E.the-variants.Record r → t ≡ turnOf da db x r → (out′ : List ℕ) →
-        out′ ≡ take next out ++ t .a ∷ t .b ∷ t .device ∷ drop (next + 3) out → Going da db x₀ words out₀ out′ (t .both) (at + 7) (next + 3)
-    unfolding lastOf linesOf
-    stepped r t h e turn out′ stored =
-        let n = next-record r h e in
-        let room = record-room r h e in
-        let lasts : lastOf da db (t .both) (n .0) ≡ lastOf da db x (g .rest) = ap (λ (y : Turn). lastOf da db (y .both) (n .0)) turn ∙ sym (ap (lastOf da db x) (n .1)) in
-        let line : lineOf da db t ++ linesOf da db (t .both) (n .0) ≡ linesOf da db x (g .rest) = ap (λ (y : Turn). lineOf da db y ++ linesOf da db (y .both) (n .0)) turn ∙ sym (ap (linesOf da db x) (n .1)) in
+    -- t is the cycle as the machine has it, and the output has its word
+    pub stepped : {given : Given} {t : Advanced} {k′ : ℕ} → at < length words → getD words at 0 / 268435456 ≡ 4 → given ≡ givenIn second e k (recordFrom words at) → AdvanceEnsures d s given t →
+        k′ ≡ nextK k → Going second d e s₀ k₀ words out₀ (set out place (t .word)) (t .state) k′ (at + 7) (place + 3)
+    unfolding lastAlone wordsAlone thirds
+    stepped {t = t} h kind is cycle rises =
+        let r = recordFrom words at in
+        let n = next-record r h (record-here h kind) in
+        let state : t .state ≡ next d s (givenIn second e k r) = cycle .state ∙ ap (next d s) is in
+        let shown : t .word ≡ word d s (givenIn second e k r) = cycle .word-is ∙ ap (word d s) is in
         record {
           all = g .all;
           rest = n .0;
           log = g .log;
           left = n .2;
-          last = lasts ∙ g .last;
-          lines =
-              ap (λ (l : List ℕ). take (next + 3) l ++ linesOf da db (t .both) (n .0)) stored
-              ∙ ap (λ (l : List ℕ). l ++ linesOf da db (t .both) (n .0)) (taken out next (t .a) (t .b) (t .device) room)
-              ∙ append-assoc (take next out) (lineOf da db t) (linesOf da db (t .both) (n .0))
-              ∙ ap (λ (l : List ℕ). take next out ++ l) line
-              ∙ g .lines;
-          behind =
-              ap (drop (next + 3)) stored
-              ∙ dropped out next (t .a) (t .b) (t .device) room
-              ∙ sym (drop-drop 3 next out)
-              ∙ ap (drop 3) (g .behind)
-              ∙ drop-drop 3 next out₀;
+          last = (λ i. lastAlone second d e (state i) (rises i) (n .0)) ∙ sym (ap (lastAlone second d e s k) (n .1)) ∙ g .last;
+          put =
+              (λ i. thirds (place + 3) (wordsAlone second d e (state i) (rises i) (n .0)) (set out place (shown i)))
+              ∙ sym (ap (λ (l : List CycleRecord). thirds place (wordsAlone second d e s k l) out) (n .1))
+              ∙ g .put;
           count = omega (arith, g .count, ap length (n .1));
-          room = subst (λ (k : ℕ). 3 * length (g .all) ≤ k) (sym (ap length stored ∙ kept-length out next (t .a) (t .b) (t .device) room)) (g .room);
+          room = subst (λ (i : ℕ). 3 * length (g .all) ≤ i) (sym (length-set out place (t .word))) (g .room);
         }
 
-    pub ended : length words ≤ at → Runs da db x₀ words out₀ x out
-    unfolding lastOf linesOf
-    ended h rs log =
-        let none : [] ≡ g .rest = empty (at-end words at (records (g .rest)) h (g .left)) in
-        let all-is : g .all ≡ rs = same-records (sym (g .log) ∙ log) in
-        let size : next ≡ 3 * length rs = omega (arith, g .count, ap length none, ap length all-is) in (
-          ap (lastOf da db x) none ∙ g .last ∙ ap (lastOf da db x₀) all-is,
-          sym (take-append-drop next out)
-              ∙ ap (λ (l : List ℕ). l ++ drop next out) (sym (append-nil (take next out)) ∙ ap (λ (k : List CycleRecord). take next out ++ linesOf da db x k) none ∙ g .lines ∙ ap (linesOf da db x₀) all-is)
-              ∙ ap (λ (l : List ℕ). linesOf da db x₀ rs ++ l) (g .behind ∙ ap (λ (i : ℕ). drop i out₀) size),
-        )
-      where
-        empty : records [] ≡ records (g .rest) → [] ≡ g .rest
-        empty q = cc
+-- at the end of the words
+pub ended : (c : Channel) {e : List ℤ} {k₀ : ℕ} {second : Bool} {words out₀ out : List ℕ} {s : State} {k at place : ℕ} →
+    Going second (c .machine .values) e (c .state) k₀ words out₀ out s k at place → length words ≤ at → RunsAlone c e k₀ second words out₀ s out
+unfolding lastAlone wordsAlone thirds
+ended c {e} {k₀} {second} {words} {out₀} {out} {s} {k} {at} {place} g h rs log =
+    let d = c .machine .values in
+    let none : [] ≡ g .rest = empty (at-end words at (records (g .rest)) h (g .left)) in
+    let all-is : g .all ≡ rs = same-records (sym (g .log) ∙ log) in (
+      ap (lastAlone second d e s k) none ∙ g .last ∙ ap (lastAlone second d e (c .state) k₀) all-is,
+      ap (λ (l : List CycleRecord). thirds place (wordsAlone second d e s k l) out) none
+          ∙ g .put
+          ∙ ap (λ (l : List CycleRecord). thirds (cond second 1 0) (wordsAlone second d e (c .state) k₀ l) out₀) all-is,
+    )
+  where
+    empty : records [] ≡ records (g .rest) → [] ≡ g .rest
+    empty q = cc
 
-        same-records : {a b : List CycleRecord} → records a ≡ records b → a ≡ b
-        same-records q = cc
+    same-records : {a b : List CycleRecord} → records a ≡ records b → a ≡ b
+    same-records q = cc

@@ -1,4 +1,5 @@
-pub mod Output
+pub mod Thirds
+pub mod Apart
 pub mod Going
 pub mod Answers
 pub mod Accepts

@@ -1,16 +1,18 @@
 -- What the run of a log ensures: its answer, both channels and the whole output as values.
 use Prim.Native.Nat.{ℕ, _*_, _≤_}
 use mathlib.Core.Path.{_≡_}
-use mathlib.Core.List.{List, _++_}
-use lib.ListN.{length, drop}
+use mathlib.Core.Bool.{Bool, cond}
+use mathlib.Core.List.{List}
+use lib.ListN.{length}
 use lib.IntN.{ℤ}
 use Rattle.channel.specs.declared.Channel.{Channel}
+use Rattle.channel.specs.declared.State.{State}
 use Rattle.records.specs.declared.CycleRecord.{CycleRecord}
 use Rattle.records.specs.Records.{records, logOf}
-use Rattle.log.specs.declared.Both.{Both}
 use Rattle.log.specs.declared.LogRun.{LogRun}
 use Rattle.log.specs.declared.LogAnswer.the-variants.{Refused}
-use Rattle.log.specs.Run.{ranOf, lastOf, linesOf}
+use Rattle.log.specs.Run.{ranOf}
+use Rattle.log.specs.Alone.{lastAlone, wordsAlone, thirds}
 
 pub record LogEnsures (a b : Channel) (words out : List ℕ) (r : LogRun) (out′ : List ℕ) : Type 0 where
   pub answer : r .answer ≡ ranOf a b words out .answer
@@ -36,7 +38,8 @@ pub record Sound (words out : List ℕ) (cycles : ℕ) : Type 0 where
   pub counted : cycles ≡ length rs
   pub short : length words ≤ 16384
 
--- the records of a log are run: the states after them, and their words before the output's untouched rest
-abbrev pub Runs : List ℤ → List ℤ → Both → List ℕ → List ℕ → Both → List ℕ → Type 0
-Runs da db x words out y out′ =
-    (rs : List CycleRecord) → logOf words ≡ records rs → (y ≡ lastOf da db x rs) × (out′ ≡ linesOf da db x rs ++ drop (3 * length rs) out)
+-- the records of a log are run in one channel: the state after them, and its words at every third place of the output
+abbrev pub RunsAlone : Channel → List ℤ → ℕ → Bool → List ℕ → List ℕ → State → List ℕ → Type 0
+RunsAlone c e k second words out s out′ =
+    (rs : List CycleRecord) → logOf words ≡ records rs →
+    (s ≡ lastAlone second (c .machine .values) e (c .state) k rs) × (out′ ≡ thirds (cond second 1 0) (wordsAlone second (c .machine .values) e (c .state) k rs) out)

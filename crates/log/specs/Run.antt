@@ -14,13 +14,17 @@ use Rattle.channel.specs.declared.Channel.{Channel}
 use Rattle.channel.specs.Cycle.{reportOf, next}
 use Rattle.channel.specs.Word.{word}
 use Rattle.device.specs.Device.{deviceOf}
-use Rattle.log.specs.declared.Both.{Both}
 use Rattle.log.specs.declared.LogAnswer.{LogAnswer}
 use Rattle.log.specs.declared.LogAnswer.the-variants.{Accepted, Refused}
 
 -- what a record gives a channel: its own reading, and the other's report, "datum k by the data and k of the channel given"
-abbrev pub givenBy : List ℤ → State → Reading → Reading → Bool → Given
-givenBy d s own other ack = record { reading = own; acknowledged = ack; report = reportOf d s other }
+abbrev pub givenBy : List ℤ → ℕ → Reading → Reading → Bool → Given
+givenBy d k own other ack = record { reading = own; acknowledged = ack; report = reportOf d k other }
+
+-- the states of the two channels
+pub record Both : Type 0 where
+  pub a : State
+  pub b : State
 
 -- a cycle of both channels: the states after it, and its three words
 pub record Turn : Type 0 where
@@ -32,10 +36,10 @@ pub record Turn : Type 0 where
 module _ (da db : List ℤ) where
   -- both reports are from before the cycle
   abbrev pub givenA : Both → CycleRecord → Given
-  givenA x r = givenBy db (x .b) (r .a) (r .b) (r .acknowledged)
+  givenA x r = givenBy db (x .b .k) (r .a) (r .b) (r .acknowledged)
 
   abbrev pub givenB : Both → CycleRecord → Given
-  givenB x r = givenBy da (x .a) (r .b) (r .a) (r .acknowledged)
+  givenB x r = givenBy da (x .a .k) (r .b) (r .a) (r .acknowledged)
 
   -- "each cycle puts A's word, B's word and the device word into the output"
   unfoldable pub turnOf : Both → CycleRecord → Turn

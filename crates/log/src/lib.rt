@@ -1,16 +1,15 @@
 // The run of a log over two channels, into a lent output.
 ghost use mathlib.Core.Path.{_≡_};
+ghost use mathlib.Core.Bool.{cond};
 ghost use Prim.Native.Nat.{_+_, _≤_, _*_};
-ghost use mathlib.Core.List.{_∷_, _++_};
-ghost use lib.ListN.{length, take, drop};
+ghost use lib.ListN.{length};
 ghost use Rattle.records.specs.Seven.{recordFrom};
-ghost use Rattle.log.specs.Run.{givenBy};
-ghost use Rattle.log.specs.Ensures.{LogEnsures, refusedRun, Enough, Sound, Runs};
+ghost use Rattle.log.specs.Alone.{readingIn, givenIn, withDevices};
+ghost use Rattle.log.specs.Ensures.{LogEnsures, refusedRun, Enough, Sound, RunsAlone};
 use channel::Channel;
 use channel::Given;
 use channel::State;
 use inputs::Reading;
-use records::CycleRecord;
 use records::Scan;
 
 pub enum LogAnswer {
@@ -27,93 +26,85 @@ pub struct LogRun {
     pub b: Channel,
 }
 
-// The two channels' states, beside their data.
-struct Both {
-    a: State,
-    b: State,
+// A channel's reading in the record at a place where one stands: A's is the first of two, B's the second.
+fn reading_at(words: &[u32], at: usize, second: bool) -> Reading
+    requires { ⌜ at + 7 ≤ length (now words) ⌝ }
+    ensures { λ r. ⌜ r ≡ readingIn second (recordFrom (now (words .entry)) at) ⌝ }
+{
+    if second {
+        records::reading_of(words[at + 3], words[at + 4], words[at + 5])
+    } else {
+        records::reading_of(words[at], words[at + 1], words[at + 2])
+    }
 }
 
-// What a channel is given in a record: its own reading, and the other's report from before the cycle.
-fn given(
-    other: &[i32; 51],
-    state: State,
-    own: Reading,
-    reported: Reading,
-    acknowledged: bool,
-) -> Given
-    ensures { λ r. ⌜ r ≡ givenBy (now (other .entry)) state own reported acknowledged ⌝ }
+// What that record gives a channel: its own reading, and the other's report by the other's k.
+fn given_at(words: &[u32], at: usize, second: bool, other: &[i32; 51], k: u8) -> Given
+    requires { ⌜ at + 7 ≤ length (now words) ⌝ }
+    ensures { λ r. ⌜ r ≡ givenIn second (now (other .entry)) k (recordFrom (now (words .entry)) at) ⌝ }
 {
     Given {
-        reading: own,
-        acknowledged,
-        report: channel::report(other, state, reported),
-    }
-}
-
-// The record at a place where one stands.
-fn record_at(words: &[u32], at: usize) -> CycleRecord
-    requires { ⌜ at + 7 ≤ length (now words) ⌝ }
-    ensures { λ r. ⌜ r ≡ recordFrom (now (words .entry)) at ⌝ }
-{
-    CycleRecord {
-        a: records::reading_of(words[at], words[at + 1], words[at + 2]),
-        b: records::reading_of(words[at + 3], words[at + 4], words[at + 5]),
+        reading: reading_at(words, at, second),
         acknowledged: words[at + 6] % 2 == 1,
+        report: channel::report(other, k, reading_at(words, at, !second)),
     }
 }
 
-// A cycle's three words, from a place of the output on.
-fn put(out: &mut [u32], at: usize, a: u32, b: u32, device: u32)
-    requires { ⌜ at + 3 ≤ length (now out) ⌝ }
-    ensures { λ _. ⌜ now (out .exit) ≡ take at (now (out .entry)) ++ a ∷ b ∷ device ∷ drop (at + 3) (now (out .entry)) ⌝ }
+// The place of a channel's first word in the output.
+fn first_place(second: bool) -> usize
+    ensures { λ r. ⌜ r ≡ cond second 1 0 ⌝ }
 {
-    out[at] = a;
-    out[at + 1] = b;
-    out[at + 2] = device;
+    if second { 1 } else { 0 }
 }
 
-// The records of an accepted log, run one by one: what begins with a position is a record, and all else a remark.
-fn run_records<'a>(
-    ma: &'a [i32; 51],
-    mb: &'a [i32; 51],
-    both: Both,
+// One channel over the records of an accepted log: what begins with a position is a record, and all else a remark. Its words
+// go to every third place of the output. Of the other channel it takes the data and k, which rises by one in every cycle,
+// so each channel runs by itself. The data come by value: a copy that no write to the output can reach is read once.
+fn run_channel(
+    own: Channel,
+    other: &[i32; 51],
+    k: u8,
+    second: bool,
     words: &[u32],
     out: &mut [u32],
-) -> Both
+) -> State
     requires { ⌜ Enough (now words) (now out) ⌝ }
-    ensures { λ r. ⌜ Runs (now (ma .entry)) (now (mb .entry)) both (now (words .entry)) (now (out .entry)) r (now (out .exit)) ⌝ }
+    ensures { λ r. ⌜ RunsAlone own (now (other .entry)) k second (now (words .entry)) (now (out .entry)) r (now (out .exit)) ⌝ }
 {
-    let mut a = both.a;
-    let mut b = both.b;
+    let machine = own.machine;
+    let mut state = own.state;
+    let mut reported = k;
     let mut at = 0usize;
-    let mut next = 0usize;
+    let mut next = first_place(second);
     while at < words.len() {
         if records::begins_record(words[at]) {
-            let r = record_at(words, at);
-            let ra = r.a;
-            let rb = r.b;
-            let ga = given(mb, b, ra, rb, r.acknowledged);
-            let gb = given(ma, a, rb, ra, r.acknowledged);
-            let ta = channel::advance(ma, a, ga);
-            let tb = channel::advance(mb, b, gb);
-            put(
-                out,
-                next,
-                ta.word,
-                tb.word,
-                device::device_word(ta.word, tb.word),
-            );
-            let na = ta.state;
-            let nb = tb.state;
-            a = na;
-            b = nb;
+            let given = given_at(words, at, second, other, reported);
+            let after = channel::advance(&machine.values, state, given);
+            out[next] = after.word;
+            let reached = after.state;
+            state = reached;
+            reported = channel::next_k(reported);
             at += 7;
             next += 3;
         } else {
             at += 1;
         }
     }
-    Both { a, b }
+    state
+}
+
+// The device word of each cycle, behind the words of A and B.
+fn put_devices(out: &mut [u32], cycles: usize)
+    requires { ⌜ 3 * cycles ≤ length (now out) ⌝ }
+    ensures { λ _. ⌜ now (out .exit) ≡ withDevices 0 cycles (now (out .entry)) ⌝ }
+{
+    let mut left = cycles;
+    let mut at = 0usize;
+    while 0 < left {
+        out[at + 2] = device::device_word(out[at], out[at + 1]);
+        at += 3;
+        left -= 1;
+    }
 }
 
 fn refused(number: u32, place: usize, a: Channel, b: Channel) -> LogRun
@@ -135,9 +126,9 @@ fn accepted(a: Channel, b: Channel, words: &[u32], out: &mut [u32], cycles: usiz
     let mb = b.machine;
     let sa = a.state;
     let sb = b.state;
-    let last = run_records(&ma.values, &mb.values, Both { a: sa, b: sb }, words, out);
-    let la = last.a;
-    let lb = last.b;
+    let la = run_channel(a, &mb.values, sb.k, false, words, out);
+    let lb = run_channel(b, &ma.values, sa.k, true, words, out);
+    put_devices(out, cycles);
     LogRun {
         answer: LogAnswer::Accepted(cycles),
         a: Channel {

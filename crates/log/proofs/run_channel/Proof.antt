@@ -1,0 +1,129 @@
+use mathlib.Core.Path.{_≡_, refl, sym, ap, _∙_}
+use Prim.Native.Nat.{_-_, _≤_}
+use native.Mathlib.Omega.{arith}
+use borrow.Author.Needs.{needs}
+use lib.ListN.{length, length-set}
+use Rattle.records.proofs.Seven.{begins-kind, begins-not}
+use Rattle.log.proofs.Going.{Going, starts, there, remarked, stepped, ended}
+use Rattle.log.proofs.run_channel.Statement.{statement}
+use Rattle.log.proofs.run_channel.Tie as tie
+use Rattle.log.proofs.run_channel.Reads as reads
+use Rattle.log.proofs.run_channel.Lts as lts
+use Rattle.channel.proofs.advance.Reads as advance-reads
+use Rattle.channel.proofs.next_k.Reads as next-k-reads
+use Rattle.log.proofs.first_place.Reads as first-place-reads
+use Rattle.log.proofs.given_at.Reads as given-at-reads
+use Rattle.records.proofs.begins_record.Reads as begins-record-reads
+
+abbrev Inv-loop : tie.InvT-loop
+Inv-loop other k second words out₀ machine state₀ reported₀ at₀ next₀ out state reported at next =
+    (at ≤ length words) × (length out ≡ length out₀) × Going second (machine .values) other state₀ k words out₀ out state reported at next
+
+abbrev μ-loop : tie.MeasureT-loop
+μ-loop other k second words out₀ machine state₀ reported₀ at₀ next₀ out state reported at next = length words - at
+
+-- src/lib.rt:78:9
+first-place-requires : tie.Need-first-place-requires Inv-loop μ-loop
+first-place-requires c κs = search needs
+
+-- src/lib.rt:79:5
+loop-holds : tie.Need-loop-holds Inv-loop μ-loop
+loop-holds c = (omega arith, refl, starts (c .before .before .before .before .before .pre) (c .first-place .ensures))
+
+-- src/lib.rt:80:35
+mul-begins-record : tie.Need-mul-begins-record Inv-loop μ-loop
+mul-begins-record c = search needs
+
+-- src/lib.rt:80:35
+shared-slice-read-begins-record : tie.Need-shared-slice-read-begins-record Inv-loop μ-loop
+shared-slice-read-begins-record c = search needs
+
+-- src/lib.rt:80:12
+begins-record-requires : tie.Need-begins-record-requires Inv-loop μ-loop
+begins-record-requires c κs = search needs
+
+-- src/lib.rt:81:17
+given-at-requires : tie.Need-given-at-requires Inv-loop μ-loop
+given-at-requires c κs = there (c .before .before .before .before .loop .inv .2) (c .before .before .before .loop-test .taken) (begins-kind _ (sym (c .before .begins-record .ensures) ∙ c .if1 .taken)) .0
+
+-- src/lib.rt:82:17
+advance-requires : tie.Need-advance-requires Inv-loop μ-loop
+advance-requires c κs = search needs
+
+-- src/lib.rt:83:13
+mul-out : tie.Need-mul-out Inv-loop μ-loop
+mul-out c = omega (arith, there (c .before .before .before .before .before .before .before .before .loop .inv .2) (c .before .before .before .before .before .before .before .loop-test .taken) (begins-kind _ (sym (c .before .before .before .before .before .begins-record .ensures) ∙ c .before .before .before .before .if1 .taken)) .1, c .before .before .before .before .before .before .before .before .loop .inv .1, c .before .before .before .before .before .before .before .before .before .before .before .before .before .before .good)
+
+-- src/lib.rt:83:13
+slice-write-out : tie.Need-slice-write-out Inv-loop μ-loop
+slice-write-out c = there (c .before .before .before .before .before .before .before .before .loop .inv .2) (c .before .before .before .before .before .before .before .loop-test .taken) (begins-kind _ (sym (c .before .before .before .before .before .begins-record .ensures) ∙ c .before .before .before .before .if1 .taken)) .1
+
+-- src/lib.rt:86:13
+next-k-requires : tie.Need-next-k-requires Inv-loop μ-loop
+next-k-requires c κs = search needs
+
+-- src/lib.rt:87:13
+add-at : tie.Need-add-at Inv-loop μ-loop
+add-at c = omega (arith, there (c .before .before .before .before .before .before .before .before .before .before .loop .inv .2) (c .before .before .before .before .before .before .before .before .before .loop-test .taken) (begins-kind _ (sym (c .before .before .before .before .before .before .before .begins-record .ensures) ∙ c .before .before .before .before .before .before .if1 .taken)) .0, c .before .before .before .before .before .before .before .before .before .before .before .before .before .before .before .before .good)
+
+-- src/lib.rt:88:13
+add-next : tie.Need-add-next Inv-loop μ-loop
+add-next c = omega (arith, there (c .before .before .before .before .before .before .before .before .before .before .loop .inv .2) (c .before .before .before .before .before .before .before .before .before .loop-test .taken) (begins-kind _ (sym (c .before .before .before .before .before .before .before .begins-record .ensures) ∙ c .before .before .before .before .before .before .if1 .taken)) .1, c .before .before .before .before .before .before .before .before .before .before .loop .inv .1, c .before .before .before .before .before .before .before .before .before .before .before .before .before .before .before .before .good)
+
+-- src/lib.rt:79:5
+loop-less : tie.Need-loop-less Inv-loop μ-loop
+loop-less c = omega (arith, c .before .before .before .before .before .before .before .before .before .loop-test .taken)
+
+-- src/lib.rt:79:5
+loop-again : tie.Need-loop-again Inv-loop μ-loop
+loop-again c = let l = c .before .before .before .before .before .before .before .before .before .before .loop in let kind = begins-kind _ (sym (c .before .before .before .before .before .before .before .begins-record .ensures) ∙ c .before .before .before .before .before .before .if1 .taken) in (
+  there (l .inv .2) (c .before .before .before .before .before .before .before .before .before .loop-test .taken) kind .0,
+  length-set (l .out) (l .next) (c .before .before .advance .result .word) ∙ l .inv .1,
+  stepped (l .inv .2) (c .before .before .before .before .before .before .before .before .before .loop-test .taken) kind (c .before .before .before .before .before .given-at .ensures) (c .before .before .advance .ensures) (c .next-k .ensures),
+)
+
+-- src/lib.rt:90:13
+add-at-2 : tie.Need-add-at-2 Inv-loop μ-loop
+add-at-2 c = search needs
+
+-- src/lib.rt:79:5
+loop-less-2 : tie.Need-loop-less-2 Inv-loop μ-loop
+loop-less-2 c = search needs
+
+-- src/lib.rt:79:5
+loop-again-2 : tie.Need-loop-again-2 Inv-loop μ-loop
+loop-again-2 c = let l = c .before .before .before .before .loop in (search needs, l .inv .1, remarked (l .inv .2) (c .before .before .before .loop-test .taken) (begins-not _ (sym (c .before .begins-record .ensures) ∙ c .if1 .left)))
+
+-- src/lib.rt:63:1
+same-length : tie.Need-same-length Inv-loop μ-loop
+same-length c = c .before .loop .inv .1
+
+-- src/lib.rt:63:1
+returns : tie.Need-returns Inv-loop μ-loop
+returns c = ended (c .before .before .before .before .before .before .before .args .own) (c .before .loop .inv .2) (c .loop-test .left)
+
+pub run-channel-spec : {M : Type 1} → statement M
+run-channel-spec =
+    tie.close
+    (tie.spec
+    Inv-loop
+    μ-loop
+    first-place-requires
+    loop-holds
+    mul-begins-record
+    shared-slice-read-begins-record
+    begins-record-requires
+    given-at-requires
+    advance-requires
+    mul-out
+    slice-write-out
+    next-k-requires
+    add-at
+    add-next
+    loop-less
+    loop-again
+    add-at-2
+    loop-less-2
+    loop-again-2
+    same-length
+    returns)

@@ -7,6 +7,7 @@ use lib.IntN.{ℤ, pos, negsuc}
 use lib.Dec.{T, eqb, ltb, eqb→eq}
 use lib.Ieee.Fits.{and-l, and-r}
 use borrow.Author.Tests.{ltb-true, ltb-false}
+use Rattle.machine_data.specs.Table.{lowOf, highOf, rangeOf}
 
 abbrev same : ℤ → ℤ → Bool
 same (pos m) (pos n) = eqb m n
@@ -32,3 +33,7 @@ along f v a (suc n) k t h l = go (ltb a k) refl (λ later. along f v (suc a) n k
     go : (b : Bool) → ltb a k ≡ b → (a < k → v ≡ f k) → v ≡ f k
     go true q later = later (ltb-true a k q)
     go false q later = same-is v (f a) (and-l (same v (f a)) (level f v (suc a) n) t) ∙ ap f (omega (arith, h, ltb-false a k q))
+
+-- both ends along a stretch of numbers
+pub range-along : (low high : ℤ) (a n k : ℕ) → T (level lowOf low a n) → T (level highOf high a n) → a ≤ k → k < a + n → record { low = low; high = high } ≡ rangeOf k
+range-along low high a n k lows highs h l = λ i. record { low = along lowOf low a n k lows h l i; high = along highOf high a n k highs h l i }

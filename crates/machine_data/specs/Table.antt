@@ -5,6 +5,7 @@ use mathlib.Core.Bool.{Bool, cond, _&&_}
 use lib.IntN.{ℤ, pos, negsuc}
 use lib.Signed.{leZ}
 use lib.Dec.{leb, ltb}
+use Rattle.machine_data.specs.declared.Range.{Range}
 
 -- a row of the table: the data up to number `last`, from the row before on
 pub record Row : Type 0 where
@@ -66,6 +67,10 @@ lowOf k = rowOf rows k .low
 
 abbrev pub highOf : ℕ → ℤ
 highOf k = rowOf rows k .high
+
+-- both ends of datum k's range
+abbrev pub rangeOf : ℕ → Range
+rangeOf k = record { low = lowOf k; high = highOf k }
 
 -- z may be datum k; "numbers 0 to 50"
 unfoldable pub inRange : ℕ → ℤ → Bool

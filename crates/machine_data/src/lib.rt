@@ -1,7 +1,7 @@
 // The machine data of a channel: the table of ranges, the 51 data of a list, and a datum read within its range.
 ghost use mathlib.Core.Path.{_≡_};
-ghost use Prim.Native.Nat.{_<_, _+_, _%_};
-ghost use Rattle.machine_data.specs.Table.{lowOf, highOf, inRange};
+ghost use Prim.Native.Nat.{_<_, _≤_, _+_, _%_};
+ghost use Rattle.machine_data.specs.Table.{lowOf, highOf, rangeOf, inRange};
 ghost use Rattle.machine_data.specs.Data.{datumOf, size, numberOf, entryOf, functionOf};
 
 // The 51 data of an accepted list; a count of 0 where there is no list.
@@ -10,65 +10,92 @@ pub struct MachineData {
     pub count: usize,
 }
 
-// The lower end of datum k's range.
-fn low(k: usize) -> i32
-    requires { ⌜ k < 51 ⌝ }
-    ensures { λ r. ⌜ r ≡ lowOf k ⌝ }
+// The range of a datum, by its ends.
+struct Range {
+    low: i32,
+    high: i32,
+}
+
+// The rows of the table up to datum 15.
+fn range_to_15(k: usize) -> Range
+    requires { ⌜ k < 16 ⌝ }
+    ensures { λ r. ⌜ r ≡ rangeOf k ⌝ }
 {
     if k < 1 {
-        1
+        Range { low: 1, high: 25 }
+    } else if k < 2 {
+        Range { low: 0, high: 31 }
     } else if k < 3 {
-        0
+        Range {
+            low: 0,
+            high: 100000,
+        }
+    } else if k < 7 {
+        Range {
+            low: 1,
+            high: 1000000,
+        }
     } else if k < 11 {
-        1
+        Range { low: 1, high: 5 }
     } else if k < 15 {
-        -100000000
-    } else if k < 16 {
-        1
-    } else if k < 24 {
-        -100000000
-    } else if k < 35 {
-        0
+        Range {
+            low: -100000000,
+            high: 100000000,
+        }
     } else {
-        1
+        Range { low: 1, high: 3 }
     }
 }
 
-// The upper end.
-fn high(k: usize) -> i32
+// The rows behind it, those with many data first.
+fn range_from_16(k: usize) -> Range
+    requires { ⌜ 16 ≤ k ⌝ }
     requires { ⌜ k < 51 ⌝ }
-    ensures { λ r. ⌜ r ≡ highOf k ⌝ }
+    ensures { λ r. ⌜ r ≡ rangeOf k ⌝ }
 {
-    if k < 1 {
-        25
-    } else if k < 2 {
-        31
-    } else if k < 3 {
-        100000
-    } else if k < 7 {
-        1000000
-    } else if k < 11 {
-        5
-    } else if k < 15 {
-        100000000
-    } else if k < 16 {
-        3
-    } else if k < 24 {
-        100000000
+    if k < 24 {
+        Range {
+            low: -100000000,
+            high: 100000000,
+        }
+    } else if 35 <= k {
+        Range { low: 1, high: 100 }
     } else if k < 25 {
-        100000
+        Range {
+            low: 0,
+            high: 100000,
+        }
     } else if k < 26 {
-        1000000
+        Range {
+            low: 0,
+            high: 1000000,
+        }
     } else if k < 27 {
-        100000
+        Range {
+            low: 0,
+            high: 100000,
+        }
     } else if k < 33 {
-        1000
+        Range { low: 0, high: 1000 }
     } else if k < 34 {
-        1000000
-    } else if k < 35 {
-        1000
+        Range {
+            low: 0,
+            high: 1000000,
+        }
     } else {
-        100
+        Range { low: 0, high: 1000 }
+    }
+}
+
+// The range of datum k, in two halves, so that a list passes few rows for each datum.
+fn range_of(k: usize) -> Range
+    requires { ⌜ k < 51 ⌝ }
+    ensures { λ r. ⌜ r ≡ rangeOf k ⌝ }
+{
+    if k < 16 {
+        range_to_15(k)
+    } else {
+        range_from_16(k)
     }
 }
 
@@ -79,10 +106,11 @@ pub fn in_range(k: usize, z: i32) -> bool
     if 51 <= k {
         return false;
     }
-    if z < low(k) {
+    let range = range_of(k);
+    if z < range.low {
         return false;
     }
-    z <= high(k)
+    z <= range.high
 }
 
 // Datum k between the ends of its range: what lies outside, as in no accepted list, reads as the nearer end.
@@ -116,7 +144,8 @@ pub fn datum(values: &[i32; 51], k: usize) -> i32
     if 51 <= k {
         return 0;
     }
-    read(values, k, low(k), high(k))
+    let range = range_of(k);
+    read(values, k, range.low, range.high)
 }
 
 // Datum k as a number.

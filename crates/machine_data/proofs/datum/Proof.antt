@@ -1,25 +1,35 @@
--- `machine_data::datum` meets its contract. Assumes nothing.
+use mathlib.Core.Path.{_∙_, ap}
+use mir.Syntax.{w32}
+use mir.ValLaws.{toZ-ofZ}
+use mathlib.Core.Path.{ap}
 use borrow.Author.Tests.{le-ltb}
 use Rattle.machine_data.specs.Data.{datumOf}
+use Rattle.machine_data.specs.declared.Range.{Range}
 use borrow.Author.Needs.{needs}
 use Rattle.machine_data.proofs.datum.Statement.{statement}
 use Rattle.machine_data.proofs.datum.Tie as tie
+use Rattle.machine_data.proofs.datum.Reads as reads
+use Rattle.machine_data.proofs.datum.Lts as lts
+use Rattle.machine_data.proofs.range_of.Reads as range-of-reads
+use Rattle.machine_data.proofs.read.Reads as read-reads
 
+-- src/lib.rt:145:9
 returns : tie.Need-returns
 unfolding datumOf
 returns c = simp (le-ltb _ _ (c .if1 .taken))
 
-low-requires : tie.Need-low-requires
-low-requires c κs = search needs
+-- src/lib.rt:147:9
+range-of-requires : tie.Need-range-of-requires
+range-of-requires c κs = search needs
 
-high-requires : tie.Need-high-requires
-high-requires c κs = search needs
-
+-- src/lib.rt:148:5
 read-requires : tie.Need-read-requires
-read-requires c κs = search needs
+read-requires c κs = let r = c .before .before .range-of in
+    (search needs, (toZ-ofZ w32 (r .result .low) (search needs) ∙ ap (λ (x : Range). x .low) (r .ensures), toZ-ofZ w32 (r .result .high) (search needs) ∙ ap (λ (x : Range). x .high) (r .ensures)))
 
+-- src/lib.rt:141:1
 returns-2 : tie.Need-returns-2
 returns-2 c = search needs
 
 pub datum-spec : {M : Type 1} → statement M
-datum-spec = tie.close (tie.spec returns low-requires high-requires read-requires returns-2)
+datum-spec = tie.close (tie.spec returns range-of-requires read-requires returns-2)

@@ -14,8 +14,7 @@ use Rattle.log.specs.Ensures.{LogEnsures}
 use Rattle.log.specs.Run.{ranOf}
 use Rattle.log.specs.declared.LogRun.{LogRun}
 use Rattle.log.specs.declared.LogAnswer as L
-use Rattle.kit_run.specs.declared.KitRun as R
-use Rattle.kit_run.specs.KitRun.{KitRan, answerOf, ofLog, byKit, kitRan}
+use Rattle.kit_run.specs.KitRun.{answerOf, ofLog, byKit, kitRan}
 
 module _ (words out : List ℕ) {r : KitRead} (read : r ≡ readKit words) where
   pub by-read : {x : K.KitAnswer} → r .answer ≡ x → byKit words out r x ≡ kitRan words out

@@ -1,11 +1,11 @@
 -- Fields put one behind the other. Assumes nothing.
-use mathlib.Core.Path.{_≡_, refl, sym, ap, _∙_}
+use mathlib.Core.Path.{_≡_, refl, ap, _∙_}
 use mathlib.Core.List.{List, [], _∷_, _++_, append-assoc}
-use Prim.Native.Nat.{ℕ, suc, _+_, _≤_, _<_}
+use Prim.Native.Nat.{ℕ, _+_, _≤_}
 use native.Mathlib.Omega.{arith}
 use lib.ListN.{length, set, length-append, length-set}
 use lib.Seq.{append-snoc}
-use Rattle.numerals.specs.Numerals.{digits, width, numeral}
+use Rattle.numerals.specs.Numerals.{digits, width}
 use Rattle.numerals.specs.Written.{splice, written}
 use Rattle.numerals.proofs.Laws.{length-digits}
 use Rattle.numerals.proofs.Splices.{store-splice, length-splice, written-room, splice-behind}

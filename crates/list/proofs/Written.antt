@@ -4,23 +4,21 @@ use mathlib.Core.List.{List, [], _∷_, _++_}
 use mathlib.Core.Bool.{Bool, true, false, cond}
 use Prim.Native.Nat.{ℕ, zero, suc, _+_, _-_, _*_, _^_, _<_}
 use native.Mathlib.Nat.{mul-assoc, add-assoc, add-mul, pow-succ'}
-use native.Mathlib.Numerals.{add-one}
 use native.Mathlib.Omega.{arith}
-use lib.ListN.{length, getD, drop, length-drop}
-use lib.Seq.{drop-cons}
+use lib.ListN.{length, getD, drop}
 use lib.IntN.{ℤ}
 use lib.Dec.{T, eqb}
 use lib.Ieee.{Float, binary32, binary64, ofBits}
 use lib.Ieee.Bits.{is-true}
-use borrow.Author.Tests.{lt-ltb, eqb-true}
+use borrow.Author.Tests.{eqb-true}
 use Rattle.words.proofs.Absurd.{never}
 use Rattle.words.specs.declared.Word.{Word}
 use Rattle.words.specs.declared.Word.the-variants as W
-use Rattle.words.specs.Words.{wordOf, wordAt, twos}
+use Rattle.words.specs.Words.{wordAt, twos}
 use Rattle.words.specs.Cases.{ifPiece}
 use Rattle.words.specs.IsWord.{IsWord}
 use Rattle.words.proofs.Front.{behind, front-reads, front-is}
-use Rattle.words.proofs.IsWord.{reads, read-at}
+use Rattle.words.proofs.IsWord.{read-at}
 use Rattle.words.proofs.Cases.{there, is-datum}
 use Rattle.whole.specs.declared.Whole as H
 use Rattle.whole.specs.Whole.{wholeOf}

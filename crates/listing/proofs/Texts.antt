@@ -1,11 +1,11 @@
 -- The text of a kit, by its size, its words and its run. Assumes nothing.
 use mathlib.Core.Path.{_≡_, refl, sym, ap, subst, _∙_}
-use mathlib.Core.Bool.{Bool, true, false, cond, _&&_, true≢false}
-use mathlib.Core.List.{List, _++_}
-use Prim.Native.Nat.{ℕ, _+_, _*_, _/_, _%_, _≤_, _<_}
+use mathlib.Core.Bool.{Bool, true, false, _&&_, true≢false}
+use mathlib.Core.List.{List}
+use Prim.Native.Nat.{ℕ, _*_, _/_, _%_, _≤_, _<_}
 use native.Mathlib.Omega.{arith}
-use lib.ListN.{length, take, drop, length-append}
-use lib.Seq.{take-at, length-take-le}
+use lib.ListN.{length, take}
+use lib.Seq.{length-take-le}
 use lib.Dec.{leb, eqb}
 use borrow.Author.Tests.{leb-true, eqb-true}
 use Rattle.numerals.specs.Written.{splice, written}
@@ -13,7 +13,7 @@ use Rattle.numerals.proofs.Splices.{written-room, written-none}
 use Rattle.lines.specs.Lines.{refusal}
 use Rattle.kit_run.specs.declared.KitRun as R
 use Rattle.kit_run.specs.KitRun.{kitRan}
-use Rattle.listing.specs.Listing.{wordsOf, ofWords, wholeWords, listed, answerText, cyclesOf, HasCycles}
+use Rattle.listing.specs.Listing.{wordsOf, ofWords, wholeWords, listed, answerText, cyclesOf, HasCycles, Rooms}
 use Rattle.listing.proofs.Told.{told}
 
 -- ---- a text in a buffer, its length and the longest
@@ -37,16 +37,19 @@ module _ (text out : List ℕ) {r : ℕ} (size : (r ≡ length text) × (r ≤ 7
 
 -- ---- the run of a kit's words
 
-module _ (words out : List ℕ) {answer : R.KitRun} {out′ : List ℕ} (short : length words ≤ 16384) (room : 7020 ≡ length out) (ran : answer ≡ kitRan words out .answer) (put : out′ ≡ kitRan words out .out) where
+pub still-room : (words ran words′ : List ℕ) → Rooms words ran → length words′ ≡ length words → Rooms words′ ran
+still-room words ran words′ r same = (omega (arith, r .0, same), omega (arith, r .1, same), r .2)
+
+module _ (words out : List ℕ) {answer : R.KitRun} {out′ : List ℕ} (rooms : Rooms words out) (ran : answer ≡ kitRan words out .answer) (put : out′ ≡ kitRan words out .out) where
   pub run-there : HasCycles answer out′
   run-there =
-      let t = told out (omega arith) words short in
+      let t = told out words (rooms .0) (rooms .1) in
       let size = ap length put in
       let same = ap cyclesOf ran in
-      (omega (arith, t .1, size, same), omega (arith, t .2, size))
+      (omega (arith, t .1, size, same), omega (arith, t .2, size, rooms .2))
 
   pub run-told : answerText answer out′ ≡ ofWords words
-  run-told = (λ i. answerText (ran i) (put i)) ∙ told out (omega arith) words short .0
+  run-told = (λ i. answerText (ran i) (put i)) ∙ told out words (rooms .0) (rooms .1) .0
 
 module _ {answer : R.KitRun} (words : List ℕ) (has : HasCycles answer words) {n : ℕ} (is : answer ≡ R.the-variants.Ran n) where
   pub cycles-there : 3 * n ≤ length words
@@ -57,19 +60,8 @@ module _ {answer : R.KitRun} (words : List ℕ) (has : HasCycles answer words) {
 
 -- ---- the words of a kit's bytes
 
-module _ (kit room : List ℕ) (small : length kit ≤ 65536) (whole : length kit % 4 ≡ 0) (size : 16384 ≡ length room) where
-  pub words-size : length (take (length kit / 4) room) ≡ length kit / 4
-  words-size = length-take-le (length kit / 4) room (omega arith)
-
-  module _ (words : List ℕ) (kept : length words ≡ length (take (length kit / 4) room)) where
-    pub words-there : length kit / 4 ≤ length (words ++ drop (length kit / 4) room)
-    words-there = omega (arith, kept, words-size, length-append words (drop (length kit / 4) room))
-
-    pub words-front : take (length kit / 4) (words ++ drop (length kit / 4) room) ≡ words
-    words-front = take-at words (drop (length kit / 4) room) (length kit / 4) (kept ∙ words-size)
-
-    pub front-size : length (take (length kit / 4) (words ++ drop (length kit / 4) room)) ≡ length kit / 4
-    front-size = ap length words-front ∙ kept ∙ words-size
+pub words-size : (kit room : List ℕ) → length kit ≤ 4 * length room → length (take (length kit / 4) room) ≡ length kit / 4
+words-size kit room h = length-take-le (length kit / 4) room (omega (arith, h))
 
 -- ---- the size of a kit
 

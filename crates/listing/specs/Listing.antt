@@ -1,5 +1,5 @@
 -- The bench's text for a kit's bytes: document 01, "The bench program".
-use Prim.Native.Nat.{ℕ, suc, _+_, _*_, _%_, _≤_}
+use Prim.Native.Nat.{_/_, ℕ, suc, _+_, _*_, _%_, _≤_}
 use mathlib.Core.Bool.{Bool, cond, _&&_}
 use mathlib.Core.List.{List, [], _∷_, _++_}
 use lib.ListN.{length, take, drop}
@@ -76,3 +76,7 @@ answerText (R.the-variants.Refused number place part) words = refusal number pla
 -- the run's words are there, and no more than 2,340 cycles
 abbrev pub HasCycles : R.KitRun → List ℕ → Type 0
 HasCycles answer words = (3 * cyclesOf answer ≤ length words) × (length words ≤ 7020)
+
+-- room for a kit's words, and for the words of as many cycles as its log can have
+abbrev pub Rooms : List ℕ → List ℕ → Type 0
+Rooms words ran = (length words ≤ 16384) × (3 * (length words / 7) ≤ length ran) × (length ran ≤ 7020)

@@ -3,13 +3,20 @@ ghost use mathlib.Core.Path.{_≡_};
 ghost use Prim.Native.Nat.{_*_, _%_, _≤_};
 ghost use lib.ListN.{length};
 ghost use Rattle.numerals.specs.Written.{splice, written};
-ghost use Rattle.listing.specs.Listing.{letterOf, linesFrom, wordOf, wordsOf, ofWords, wholeWords, listed, answerText, HasCycles, cyclesOf};
+ghost use Rattle.listing.specs.Listing.{letterOf, linesFrom, wordOf, wordsOf, ofWords, wholeWords, listed, answerText, HasCycles, Rooms, cyclesOf};
 ghost use Rattle.kit_run.specs.KitRun.{kitRan};
 use kit_run::KitRun;
 use kit_run::Part;
 use lines::line_length;
 use lines::put_line;
 use lines::put_refusal;
+
+// Room for the words of the largest kit.
+fn kit_words() -> [u32; 16384]
+    ensures { λ r. ⌜ 16384 ≡ length r ⌝ }
+{
+    [0; 16384]
+}
 
 // Room for 2,340 cycles, as many as 16,384 words of log can hold.
 fn cycle_words() -> [u32; 7020]
@@ -18,11 +25,18 @@ fn cycle_words() -> [u32; 7020]
     [0; 7020]
 }
 
-// Room for the words of the largest kit.
-fn kit_words() -> [u32; 16384]
-    ensures { λ r. ⌜ 16384 ≡ length r ⌝ }
+// Room for the words of a short kit, as most are: clearing room for the largest takes longer than listing them.
+fn short_kit_words() -> [u32; 2560]
+    ensures { λ r. ⌜ 2560 ≡ length r ⌝ }
 {
-    [0; 16384]
+    [0; 2560]
+}
+
+// Room for 365 cycles, as many as 2,560 words of log can hold.
+fn short_cycle_words() -> [u32; 1095]
+    ensures { λ r. ⌜ 1095 ≡ length r ⌝ }
+{
+    [0; 1095]
 }
 
 fn letter(part: Part) -> u8
@@ -124,15 +138,43 @@ fn put_answer(out: &mut [u8], answer: KitRun, words: &[u32]) -> usize
     }
 }
 
-fn list_words(words: &[u32], out: &mut [u8]) -> usize
-    requires { ⌜ length (now words) ≤ 16384 ⌝ }
-    ensures { λ r. ⌜ r ≡ length (ofWords (now (words .entry))) ⌝ }
-    ensures { λ _. ⌜ now (out .exit) ≡ written 0 (ofWords (now (words .entry))) (now (out .entry)) ⌝ }
+// A kit's listing, with room lent for its words and for those of its run.
+fn list_in(kit: &[u8], words: &mut [u32], ran: &mut [u32], out: &mut [u8]) -> usize
+    requires { ⌜ length (now kit) ≡ 4 * length (now words) ⌝ }
+    requires { ⌜ Rooms (now words) (now ran) ⌝ }
+    ensures { λ r. ⌜ r ≡ length (ofWords (wordsOf (now (kit .entry)))) ⌝ }
+    ensures { λ _. ⌜ now (out .exit) ≡ written 0 (ofWords (wordsOf (now (kit .entry)))) (now (out .entry)) ⌝ }
     ensures { λ r. ⌜ r ≤ 74880 ⌝ }
 {
+    read_words(kit, words);
+    let answer = kit_run::run_kit(words, ran);
+    put_answer(out, answer, ran)
+}
+
+fn list_short(kit: &[u8], out: &mut [u8]) -> usize
+    requires { ⌜ length (now kit) ≤ 10240 ⌝ }
+    requires { ⌜ length (now kit) % 4 ≡ 0 ⌝ }
+    ensures { λ r. ⌜ r ≡ length (ofWords (wordsOf (now (kit .entry)))) ⌝ }
+    ensures { λ _. ⌜ now (out .exit) ≡ written 0 (ofWords (wordsOf (now (kit .entry)))) (now (out .entry)) ⌝ }
+    ensures { λ r. ⌜ r ≤ 74880 ⌝ }
+{
+    let mut words = short_kit_words();
+    let mut ran = short_cycle_words();
+    let many = kit.len() / 4;
+    list_in(kit, &mut words[..many], &mut ran, out)
+}
+
+fn list_long(kit: &[u8], out: &mut [u8]) -> usize
+    requires { ⌜ length (now kit) ≤ 65536 ⌝ }
+    requires { ⌜ length (now kit) % 4 ≡ 0 ⌝ }
+    ensures { λ r. ⌜ r ≡ length (ofWords (wordsOf (now (kit .entry)))) ⌝ }
+    ensures { λ _. ⌜ now (out .exit) ≡ written 0 (ofWords (wordsOf (now (kit .entry)))) (now (out .entry)) ⌝ }
+    ensures { λ r. ⌜ r ≤ 74880 ⌝ }
+{
+    let mut words = kit_words();
     let mut ran = cycle_words();
-    let answer = kit_run::run_kit(words, &mut ran);
-    put_answer(out, answer, &ran)
+    let many = kit.len() / 4;
+    list_in(kit, &mut words[..many], &mut ran, out)
 }
 
 fn list_bytes(kit: &[u8], out: &mut [u8]) -> usize
@@ -142,10 +184,11 @@ fn list_bytes(kit: &[u8], out: &mut [u8]) -> usize
     ensures { λ _. ⌜ now (out .exit) ≡ written 0 (ofWords (wordsOf (now (kit .entry)))) (now (out .entry)) ⌝ }
     ensures { λ r. ⌜ r ≤ 74880 ⌝ }
 {
-    let mut words = kit_words();
-    let many = kit.len() / 4;
-    read_words(kit, &mut words[..many]);
-    list_words(&words[..many], out)
+    if kit.len() <= 10240 {
+        list_short(kit, out)
+    } else {
+        list_long(kit, out)
+    }
 }
 
 // The length of the kit's text; where the buffer has room the text stands at its front. No text is longer than 2,340

@@ -1,6 +1,6 @@
 -- Short forms for worked cases: lists, cycles, and the state after some cycles.
 use Prim.Native.Nat.{ℕ, zero, suc}
-use mathlib.Core.Bool.{Bool, true, false}
+use mathlib.Core.Bool.{false}
 use mathlib.Core.List.{List, [], _∷_}
 use lib.ListN.{set}
 use lib.IntN.{ℤ, pos}
@@ -8,7 +8,7 @@ use Rattle.machine_data.specs.Table.{lowOf}
 use Rattle.machine_data.specs.Data.{entryOf}
 use Rattle.channel.specs.declared.State.{State}
 use Rattle.channel.specs.declared.Given.{Given}
-use Rattle.channel.specs.Cycle.{freshState, nextK, next}
+use Rattle.channel.specs.Cycle.{next}
 
 -- a datum and its value
 pub record Entry : Type 0 where

@@ -26,7 +26,7 @@ use Rattle.records.specs.declared.Mark as M
 use Rattle.records.specs.Records.{inputsAt, entryAt}
 use Rattle.records.specs.Seven.{beginsRecord, readingOf, isReading, isRecord, recordFrom, markOf}
 use Rattle.records.proofs.Parts.{both-halves, halves, ending-is, other-is, entry-is}
-use Rattle.records.proofs.Scanning.{Read, read}
+use Rattle.records.proofs.Scanning.{read}
 use Rattle.records.proofs.Logs.{remark-at}
 
 -- ---- by their kinds

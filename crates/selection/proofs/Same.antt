@@ -1,5 +1,5 @@
 -- Of two selections that are the same SG with the same override neither is the stricter. Assumes nothing.
-use mathlib.Core.Path.{_≡_, refl, sym, ap, _∙_}
+use mathlib.Core.Path.{_≡_, refl, sym}
 use mathlib.Core.Bool.{Bool, true, false, _&&_}
 use mathlib.Core.List.{List}
 use Prim.Native.Nat.{ℕ}
@@ -10,7 +10,7 @@ use borrow.Author.Tests.{le-ltb, eqb-true}
 use Rattle.speed.specs.Speed.{speedOf}
 use Rattle.selection.specs.declared.Selection.{Selection}
 use Rattle.selection.specs.declared.Selection.the-variants.{Nothing, Sg, Sbh}
-use Rattle.selection.specs.Selection.{allowanceOf, stricter, sameSg}
+use Rattle.selection.specs.Selection.{stricter, sameSg}
 
 never : {X : Type 0} → _≡_ {A = ℕ} 0 1 → X
 never z = absurd (go z)

@@ -1,12 +1,9 @@
-use mathlib.Core.Path.{refl}
 use native.Mathlib.Nat.{div-eq-of-lt, lt-of-lt-of-le}
 use lib.Pow.{pow-mono}
 use Rattle.bits.specs.Bits.{bitOf}
 use borrow.Author.Needs.{needs}
 use Rattle.bits.proofs.bit.Statement.{statement}
 use Rattle.bits.proofs.bit.Tie as tie
-use Rattle.bits.proofs.bit.Reads as reads
-use Rattle.bits.proofs.bit.Lts as lts
 
 -- src/lib.rt:10:10
 shr-result : tie.Need-shr-result

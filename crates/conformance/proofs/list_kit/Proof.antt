@@ -7,11 +7,6 @@ use lib.Seq.{length-take-le}
 use borrow.Author.Needs.{needs}
 use Rattle.conformance.proofs.list_kit.Statement.{statement}
 use Rattle.conformance.proofs.list_kit.Tie as tie
-use Rattle.conformance.proofs.list_kit.Reads as reads
-use Rattle.conformance.proofs.list_kit.Lts as lts
-use Rattle.io.proofs.read_full.Reads as read-full-reads
-use Rattle.io.proofs.write_all.Reads as write-all-reads
-use Rattle.listing.proofs.monitor_list_kit.Reads as monitor-list-kit-reads
 
 slice-aggregate-read-full : tie.Need-slice-aggregate-read-full
 slice-aggregate-read-full c = search needs

@@ -3,10 +3,6 @@ use Prim.Native.Nat.{_-_}
 use borrow.Author.Needs.{needs}
 use Rattle.conformance.proofs.main.Statement.{statement}
 use Rattle.conformance.proofs.main.Tie as tie
-use Rattle.conformance.proofs.main.Reads as reads
-use Rattle.conformance.proofs.main.Lts as lts
-use Rattle.conformance.proofs.list_argument.Reads as list-argument-reads
-use Rattle.os.proofs.arg_count.Reads as arg-count-reads
 
 abbrev Inv-loop : tie.InvT-loop
 Inv-loop many i₀ i = Unit {0}

@@ -2,14 +2,10 @@
 use mathlib.Core.Path.{sym}
 use native.Mathlib.Omega.{arith}
 use denote.Ref.{now}
-use lib.ListN.{length}
 use lib.Seq.{length-take-le}
 use borrow.Author.Needs.{needs}
 use Rattle.conformance.proofs.put_name.Statement.{statement}
 use Rattle.conformance.proofs.put_name.Tie as tie
-use Rattle.conformance.proofs.put_name.Reads as reads
-use Rattle.conformance.proofs.put_name.Lts as lts
-use Rattle.io.proofs.write_all.Reads as write-all-reads
 
 sub-end : tie.Need-sub-end
 sub-end c = search needs

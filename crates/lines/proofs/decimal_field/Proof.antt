@@ -4,9 +4,6 @@ use Rattle.lines.proofs.Fields.{field-put}
 use borrow.Author.Needs.{needs}
 use Rattle.lines.proofs.decimal_field.Statement.{statement}
 use Rattle.lines.proofs.decimal_field.Tie as tie
-use Rattle.lines.proofs.decimal_field.Reads as reads
-use Rattle.lines.proofs.decimal_field.Lts as lts
-use Rattle.numerals.proofs.put_decimal.Reads as put-decimal-reads
 
 put-decimal-requires : tie.Need-put-decimal-requires
 put-decimal-requires c κs = search needs

@@ -4,9 +4,6 @@ use Rattle.lines.proofs.Fields.{field-put}
 use borrow.Author.Needs.{needs}
 use Rattle.lines.proofs.hex_field.Statement.{statement}
 use Rattle.lines.proofs.hex_field.Tie as tie
-use Rattle.lines.proofs.hex_field.Reads as reads
-use Rattle.lines.proofs.hex_field.Lts as lts
-use Rattle.numerals.proofs.put_hex.Reads as put-hex-reads
 
 put-hex-requires : tie.Need-put-hex-requires
 put-hex-requires c κs = search needs

@@ -4,10 +4,6 @@ use Rattle.lines.proofs.Sizes.{line-size, decimal-most, hex-most}
 use borrow.Author.Needs.{needs}
 use Rattle.lines.proofs.line_length.Statement.{statement}
 use Rattle.lines.proofs.line_length.Tie as tie
-use Rattle.lines.proofs.line_length.Reads as reads
-use Rattle.lines.proofs.line_length.Lts as lts
-use Rattle.numerals.proofs.decimal_width.Reads as decimal-width-reads
-use Rattle.numerals.proofs.hex_width.Reads as hex-width-reads
 
 decimal-width-requires : tie.Need-decimal-width-requires
 decimal-width-requires c κs = search needs

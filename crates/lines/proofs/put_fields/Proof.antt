@@ -6,12 +6,6 @@ use Rattle.lines.proofs.Fields.{line-put}
 use borrow.Author.Needs.{needs}
 use Rattle.lines.proofs.put_fields.Statement.{statement}
 use Rattle.lines.proofs.put_fields.Tie as tie
-use Rattle.lines.proofs.put_fields.Reads as reads
-use Rattle.lines.proofs.put_fields.Lts as lts
-use Rattle.lines.proofs.decimal_field.Reads as decimal-field-reads
-use Rattle.lines.proofs.hex_field.Reads as hex-field-reads
-use Rattle.numerals.proofs.decimal_width.Reads as decimal-width-reads
-use Rattle.numerals.proofs.hex_width.Reads as hex-width-reads
 
 decimal-width-requires : tie.Need-decimal-width-requires
 decimal-width-requires c κs = search needs

@@ -6,8 +6,6 @@ use Rattle.lines.proofs.Fields.{two-stored}
 use borrow.Author.Needs.{needs}
 use Rattle.lines.proofs.put_letter.Statement.{statement}
 use Rattle.lines.proofs.put_letter.Tie as tie
-use Rattle.lines.proofs.put_letter.Reads as reads
-use Rattle.lines.proofs.put_letter.Lts as lts
 
 slice-write-out : tie.Need-slice-write-out
 slice-write-out c = search needs

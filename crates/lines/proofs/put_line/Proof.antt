@@ -6,11 +6,6 @@ use Rattle.lines.specs.Lines.{line}
 use borrow.Author.Needs.{needs}
 use Rattle.lines.proofs.put_line.Statement.{statement}
 use Rattle.lines.proofs.put_line.Tie as tie
-use Rattle.lines.proofs.put_line.Reads as reads
-use Rattle.lines.proofs.put_line.Lts as lts
-use Rattle.lines.proofs.line_length.Reads as line-length-reads
-use Rattle.lines.proofs.put_fields.Reads as put-fields-reads
-use Rattle.numerals.proofs.has_room.Reads as has-room-reads
 
 line-length-requires : tie.Need-line-length-requires
 line-length-requires c κs = search needs

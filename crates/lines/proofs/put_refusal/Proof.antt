@@ -6,11 +6,6 @@ use Rattle.lines.specs.Lines.{refusal}
 use borrow.Author.Needs.{needs}
 use Rattle.lines.proofs.put_refusal.Statement.{statement}
 use Rattle.lines.proofs.put_refusal.Tie as tie
-use Rattle.lines.proofs.put_refusal.Reads as reads
-use Rattle.lines.proofs.put_refusal.Lts as lts
-use Rattle.lines.proofs.put_refused.Reads as put-refused-reads
-use Rattle.lines.proofs.refusal_length.Reads as refusal-length-reads
-use Rattle.numerals.proofs.has_room.Reads as has-room-reads
 
 refusal-length-requires : tie.Need-refusal-length-requires
 refusal-length-requires c κs = search needs

@@ -6,12 +6,6 @@ use Rattle.lines.proofs.Fields.{refusal-put}
 use borrow.Author.Needs.{needs}
 use Rattle.lines.proofs.put_refused.Statement.{statement}
 use Rattle.lines.proofs.put_refused.Tie as tie
-use Rattle.lines.proofs.put_refused.Reads as reads
-use Rattle.lines.proofs.put_refused.Lts as lts
-use Rattle.lines.proofs.decimal_field.Reads as decimal-field-reads
-use Rattle.lines.proofs.put_letter.Reads as put-letter-reads
-use Rattle.lines.proofs.put_refused_word.Reads as put-refused-word-reads
-use Rattle.numerals.proofs.decimal_width.Reads as decimal-width-reads
 
 put-refused-word-requires : tie.Need-put-refused-word-requires
 put-refused-word-requires c κs = search needs

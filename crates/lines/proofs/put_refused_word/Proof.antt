@@ -1,15 +1,12 @@
 -- `lines::put_refused_word` meets its contract. Assumes nothing.
 use native.Mathlib.Omega.{arith}
 use mathlib.Core.List.{[], _∷_}
-use mathlib.Core.Path.{_∙_}
 use denote.Ref.{now}
 use lib.ListN.{length-set}
 use lib.Seq.{sets-eq}
 use borrow.Author.Needs.{needs}
 use Rattle.lines.proofs.put_refused_word.Statement.{statement}
 use Rattle.lines.proofs.put_refused_word.Tie as tie
-use Rattle.lines.proofs.put_refused_word.Reads as reads
-use Rattle.lines.proofs.put_refused_word.Lts as lts
 
 slice-write-out : tie.Need-slice-write-out
 slice-write-out c = search needs

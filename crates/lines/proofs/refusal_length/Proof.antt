@@ -5,9 +5,6 @@ use Rattle.lines.proofs.Sizes.{refusal-size, decimal-most}
 use borrow.Author.Needs.{needs}
 use Rattle.lines.proofs.refusal_length.Statement.{statement}
 use Rattle.lines.proofs.refusal_length.Tie as tie
-use Rattle.lines.proofs.refusal_length.Reads as reads
-use Rattle.lines.proofs.refusal_length.Lts as lts
-use Rattle.numerals.proofs.decimal_width.Reads as decimal-width-reads
 
 decimal-width-requires : tie.Need-decimal-width-requires
 decimal-width-requires c κs = search needs

@@ -7,9 +7,6 @@ use borrow.Author.Needs.{needs}
 use Rattle.listing.proofs.Going.{Measured, nothing-measured, short-line, measured-on, all-measured}
 use Rattle.listing.proofs.lines_length.Statement.{statement}
 use Rattle.listing.proofs.lines_length.Tie as tie
-use Rattle.listing.proofs.lines_length.Reads as reads
-use Rattle.listing.proofs.lines_length.Lts as lts
-use Rattle.lines.proofs.line_length.Reads as line-length-reads
 
 abbrev Inv-loop : tie.InvT-loop
 Inv-loop words next₀ cycle₀ bytes₀ next cycle bytes = Measured words next cycle bytes

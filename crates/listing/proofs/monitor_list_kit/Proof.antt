@@ -4,11 +4,6 @@ use Rattle.listing.proofs.Texts.{same-text, short-text, whole-size, lis
 use borrow.Author.Needs.{needs}
 use Rattle.listing.proofs.monitor_list_kit.Statement.{statement}
 use Rattle.listing.proofs.monitor_list_kit.Tie as tie
-use Rattle.listing.proofs.monitor_list_kit.Reads as reads
-use Rattle.listing.proofs.monitor_list_kit.Lts as lts
-use Rattle.lines.proofs.put_refusal.Reads as put-refusal-reads
-use Rattle.listing.proofs.list_bytes.Reads as list-bytes-reads
-use Rattle.listing.proofs.whole_words.Reads as whole-words-reads
 
 whole-words-requires : tie.Need-whole-words-requires
 whole-words-requires c κs = search needs

@@ -4,9 +4,6 @@ use Rattle.listing.specs.Listing.{cyclesOf}
 use borrow.Author.Needs.{needs}
 use Rattle.listing.proofs.monitor_run_kit.Statement.{statement}
 use Rattle.listing.proofs.monitor_run_kit.Tie as tie
-use Rattle.listing.proofs.monitor_run_kit.Reads as reads
-use Rattle.listing.proofs.monitor_run_kit.Lts as lts
-use Rattle.kit_run.proofs.run_kit.Reads as run-kit-reads
 
 run-kit-requires : tie.Need-run-kit-requires
 run-kit-requires c κs = search needs

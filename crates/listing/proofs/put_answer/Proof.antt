@@ -9,11 +9,6 @@ use Rattle.listing.proofs.Texts.{same-text, short-text, cycles-there, c
 use borrow.Author.Needs.{needs}
 use Rattle.listing.proofs.put_answer.Statement.{statement}
 use Rattle.listing.proofs.put_answer.Tie as tie
-use Rattle.listing.proofs.put_answer.Reads as reads
-use Rattle.listing.proofs.put_answer.Lts as lts
-use Rattle.lines.proofs.put_refusal.Reads as put-refusal-reads
-use Rattle.listing.proofs.letter.Reads as letter-reads
-use Rattle.listing.proofs.put_listing.Reads as put-listing-reads
 
 enum-known-answer : tie.Need-enum-known-answer
 enum-known-answer c = search needs

@@ -7,9 +7,6 @@ use borrow.Author.Needs.{needs}
 use Rattle.listing.proofs.Going.{Put, nothing-put, same-size, line-fits, put-on, all-put}
 use Rattle.listing.proofs.put_lines.Statement.{statement}
 use Rattle.listing.proofs.put_lines.Tie as tie
-use Rattle.listing.proofs.put_lines.Reads as reads
-use Rattle.listing.proofs.put_lines.Lts as lts
-use Rattle.lines.proofs.put_line.Reads as put-line-reads
 
 abbrev Inv-loop : tie.InvT-loop
 Inv-loop out₀ words next₀ cycle₀ at₀ out next cycle at = Put words out₀ out next cycle at

@@ -5,10 +5,6 @@ use Rattle.listing.proofs.Texts.{put-front, left-alone}
 use borrow.Author.Needs.{needs}
 use Rattle.listing.proofs.put_listing.Statement.{statement}
 use Rattle.listing.proofs.put_listing.Tie as tie
-use Rattle.listing.proofs.put_listing.Reads as reads
-use Rattle.listing.proofs.put_listing.Lts as lts
-use Rattle.listing.proofs.lines_length.Reads as lines-length-reads
-use Rattle.listing.proofs.put_lines.Reads as put-lines-reads
 
 lines-length-requires : tie.Need-lines-length-requires
 lines-length-requires c κs = search needs

@@ -7,9 +7,6 @@ use borrow.Author.Needs.{needs}
 use Rattle.listing.proofs.Going.{Read, nothing-read, read-on, all-read}
 use Rattle.listing.proofs.read_words.Statement.{statement}
 use Rattle.listing.proofs.read_words.Tie as tie
-use Rattle.listing.proofs.read_words.Reads as reads
-use Rattle.listing.proofs.read_words.Lts as lts
-use Rattle.listing.proofs.word_of.Reads as word-of-reads
 
 abbrev Inv-loop : tie.InvT-loop
 Inv-loop bytes out₀ i₀ out i = Read bytes out₀ out i

@@ -1,10 +1,7 @@
 -- `listing::whole_words` meets its contract. Assumes nothing.
-use mathlib.Core.Path.{sym}
 use borrow.Author.Tests.{le-leb, lt-leb}
 use Rattle.listing.proofs.whole_words.Statement.{statement}
 use Rattle.listing.proofs.whole_words.Tie as tie
-use Rattle.listing.proofs.whole_words.Reads as reads
-use Rattle.listing.proofs.whole_words.Lts as lts
 
 returns : tie.Need-returns
 returns c = simp (le-leb (c .before .args .bytes) 65536 (c .if1 .taken))

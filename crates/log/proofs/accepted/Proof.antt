@@ -1,15 +1,9 @@
 use mathlib.Core.Path.{_∙_}
-use Prim.Native.Nat.{_*_, _≤_}
 use native.Mathlib.Omega.{arith}
 use denote.Ref.{now}
 use Rattle.log.proofs.Answers.{ran}
-use borrow.Author.Needs.{needs}
 use Rattle.log.proofs.accepted.Statement.{statement}
 use Rattle.log.proofs.accepted.Tie as tie
-use Rattle.log.proofs.accepted.Reads as reads
-use Rattle.log.proofs.accepted.Lts as lts
-use Rattle.log.proofs.put_devices.Reads as put-devices-reads
-use Rattle.log.proofs.run_channel.Reads as run-channel-reads
 
 -- src/lib.rt:129:9
 run-channel-requires : tie.Need-run-channel-requires

@@ -1,10 +1,6 @@
 use borrow.Author.Needs.{needs}
 use Rattle.log.proofs.given_at.Statement.{statement}
 use Rattle.log.proofs.given_at.Tie as tie
-use Rattle.log.proofs.given_at.Reads as reads
-use Rattle.log.proofs.given_at.Lts as lts
-use Rattle.channel.proofs.report.Reads as report-reads
-use Rattle.log.proofs.reading_at.Reads as reading-at-reads
 
 -- src/lib.rt:46:18
 reading-at-requires : tie.Need-reading-at-requires

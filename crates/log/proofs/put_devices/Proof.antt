@@ -2,15 +2,11 @@ use mathlib.Core.Path.{_≡_, refl, sym, ap, _∙_}
 use Prim.Native.Nat.{_+_, _-_, _*_, _≤_}
 use native.Mathlib.Omega.{arith}
 use borrow.Author.Needs.{needs}
-use denote.Ref.{now}
 use lib.ListN.{length, set, length-set}
 use Rattle.log.specs.Alone.{withDevices}
 use Rattle.log.proofs.Thirds.{device-put, no-more}
 use Rattle.log.proofs.put_devices.Statement.{statement}
 use Rattle.log.proofs.put_devices.Tie as tie
-use Rattle.log.proofs.put_devices.Reads as reads
-use Rattle.log.proofs.put_devices.Lts as lts
-use Rattle.device.proofs.device_word.Reads as device-word-reads
 
 abbrev Inv-loop : tie.InvT-loop
 Inv-loop out₀ cycles left₀ at₀ out left at = (at + 3 * left ≤ length out) × (length out ≡ length out₀) × (withDevices at left out ≡ withDevices 0 cycles out₀)

@@ -5,9 +5,6 @@ use Rattle.log.specs.Alone.{readingIn}
 use borrow.Author.Needs.{needs}
 use Rattle.log.proofs.reading_at.Statement.{statement}
 use Rattle.log.proofs.reading_at.Tie as tie
-use Rattle.log.proofs.reading_at.Reads as reads
-use Rattle.log.proofs.reading_at.Lts as lts
-use Rattle.records.proofs.reading_of.Reads as reading-of-reads
 
 -- src/lib.rt:34:35
 add-reading-of : tie.Need-add-reading-of

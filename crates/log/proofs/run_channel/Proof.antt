@@ -1,4 +1,4 @@
-use mathlib.Core.Path.{_≡_, refl, sym, ap, _∙_}
+use mathlib.Core.Path.{_≡_, refl, sym, _∙_}
 use Prim.Native.Nat.{_-_, _≤_}
 use native.Mathlib.Omega.{arith}
 use borrow.Author.Needs.{needs}
@@ -7,13 +7,6 @@ use Rattle.records.proofs.Seven.{begins-kind, begins-not}
 use Rattle.log.proofs.Going.{Going, starts, there, remarked, stepped, ended}
 use Rattle.log.proofs.run_channel.Statement.{statement}
 use Rattle.log.proofs.run_channel.Tie as tie
-use Rattle.log.proofs.run_channel.Reads as reads
-use Rattle.log.proofs.run_channel.Lts as lts
-use Rattle.channel.proofs.advance.Reads as advance-reads
-use Rattle.channel.proofs.next_k.Reads as next-k-reads
-use Rattle.log.proofs.first_place.Reads as first-place-reads
-use Rattle.log.proofs.given_at.Reads as given-at-reads
-use Rattle.records.proofs.begins_record.Reads as begins-record-reads
 
 abbrev Inv-loop : tie.InvT-loop
 Inv-loop other k second words out₀ machine state₀ reported₀ at₀ next₀ out state reported at next =

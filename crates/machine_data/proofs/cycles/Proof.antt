@@ -5,9 +5,6 @@ use Rattle.machine_data.proofs.Bounds.{number-most}
 use borrow.Author.Needs.{needs}
 use Rattle.machine_data.proofs.cycles.Statement.{statement}
 use Rattle.machine_data.proofs.cycles.Tie as tie
-use Rattle.machine_data.proofs.cycles.Reads as reads
-use Rattle.machine_data.proofs.cycles.Lts as lts
-use Rattle.machine_data.proofs.number.Reads as number-reads
 
 number-requires : tie.Need-number-requires
 number-requires c κs = search needs

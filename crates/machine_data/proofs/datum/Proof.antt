@@ -8,10 +8,6 @@ use Rattle.machine_data.specs.declared.Range.{Range}
 use borrow.Author.Needs.{needs}
 use Rattle.machine_data.proofs.datum.Statement.{statement}
 use Rattle.machine_data.proofs.datum.Tie as tie
-use Rattle.machine_data.proofs.datum.Reads as reads
-use Rattle.machine_data.proofs.datum.Lts as lts
-use Rattle.machine_data.proofs.range_of.Reads as range-of-reads
-use Rattle.machine_data.proofs.read.Reads as read-reads
 
 -- src/lib.rt:145:9
 returns : tie.Need-returns

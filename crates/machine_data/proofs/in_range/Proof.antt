@@ -8,9 +8,6 @@ use Rattle.machine_data.proofs.Tests.{too-low, not-low}
 use borrow.Author.Needs.{needs}
 use Rattle.machine_data.proofs.in_range.Statement.{statement}
 use Rattle.machine_data.proofs.in_range.Tie as tie
-use Rattle.machine_data.proofs.in_range.Reads as reads
-use Rattle.machine_data.proofs.in_range.Lts as lts
-use Rattle.machine_data.proofs.range_of.Reads as range-of-reads
 
 -- src/lib.rt:107:9
 returns : tie.Need-returns

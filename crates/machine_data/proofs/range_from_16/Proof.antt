@@ -2,8 +2,6 @@ use lib.IntN.{pos, negsuc}
 use Rattle.machine_data.proofs.Ends.{range-along}
 use Rattle.machine_data.proofs.range_from_16.Statement.{statement}
 use Rattle.machine_data.proofs.range_from_16.Tie as tie
-use Rattle.machine_data.proofs.range_from_16.Reads as reads
-use Rattle.machine_data.proofs.range_from_16.Lts as lts
 
 -- src/lib.rt:51:1
 returns : tie.Need-returns

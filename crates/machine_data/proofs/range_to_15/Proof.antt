@@ -3,8 +3,6 @@ use lib.IntN.{pos, negsuc}
 use Rattle.machine_data.proofs.Ends.{range-along}
 use Rattle.machine_data.proofs.range_to_15.Statement.{statement}
 use Rattle.machine_data.proofs.range_to_15.Tie as tie
-use Rattle.machine_data.proofs.range_to_15.Reads as reads
-use Rattle.machine_data.proofs.range_to_15.Lts as lts
 
 -- src/lib.rt:20:1
 returns : tie.Need-returns

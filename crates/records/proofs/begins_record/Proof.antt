@@ -8,9 +8,6 @@ use Rattle.records.specs.Seven.{beginsRecord}
 use borrow.Author.Needs.{needs}
 use Rattle.records.proofs.begins_record.Statement.{statement}
 use Rattle.records.proofs.begins_record.Tie as tie
-use Rattle.records.proofs.begins_record.Reads as reads
-use Rattle.records.proofs.begins_record.Lts as lts
-use Rattle.words.proofs.word_of.Reads as word-of-reads
 
 word-of-requires : tie.Need-word-of-requires
 word-of-requires c κs = search needs

@@ -1,5 +1,6 @@
 // What a channel is given in a cycle, and whether it can be used.
 ghost use mathlib.Core.Path.{_≡_};
+ghost use lib.Dec.{eqb};
 ghost use Rattle.inputs.specs.Inputs.{spareOf, usableOf};
 
 // A channel's own position and input word.
@@ -15,11 +16,20 @@ pub struct Report {
     pub datum: i32,
 }
 
-// The bits of an input word that no safe input has.
-fn spare(w: u32) -> u32
-    ensures { λ r. ⌜ r ≡ spareOf w ⌝ }
+// Whether the bits of an input word that no safe input has are 0, one group after the other: they come to one test.
+fn spare_off(w: u32) -> bool
+    ensures { λ r. ⌜ r ≡ eqb (spareOf w) 0 ⌝ }
 {
-    w / 4 % 2 + w / 32 % 128 + w / 8192 % 32 + w / 4194304 % 64
+    if w / 4 % 2 != 0 {
+        return false;
+    }
+    if w / 32 % 128 != 0 {
+        return false;
+    }
+    if w / 8192 % 32 != 0 {
+        return false;
+    }
+    w / 4194304 % 64 == 0
 }
 
 pub fn usable(reading: Reading) -> bool
@@ -28,5 +38,5 @@ pub fn usable(reading: Reading) -> bool
     if 100000000 < distance::magnitude(reading.position as i64) {
         return false;
     }
-    spare(reading.inputs) == 0
+    spare_off(reading.inputs)
 }

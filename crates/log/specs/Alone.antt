@@ -17,7 +17,7 @@ use Rattle.log.specs.Run.{givenBy}
 abbrev pub readingIn : Bool → CycleRecord → Reading
 readingIn second r = cond second (r .b) (r .a)
 
--- what a record gives the channel with data d, beside the other's data e and k
+-- what a record gives a channel, beside the other's data e and k
 abbrev pub givenIn : Bool → List ℤ → ℕ → CycleRecord → Given
 givenIn second e k r = givenBy e k (readingIn second r) (readingIn (not second) r) (r .acknowledged)
 

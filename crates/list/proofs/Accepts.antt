@@ -152,17 +152,18 @@ from-gather (suc i) s k at acc m m′ vs n c l =
     go (stepAt s k at) (read-written s k at)
     (λ z next. from-gather i s (k + 1) next (set acc k z) (cond (eqb k 11) at m) (cond (eqb k 13) at m′) vs n (omega arith) (length-set acc k z ∙ l))
   where
-    go : (t : S.Step) → ((z : ℤ) (next : ℕ) → t ≡ S.the-variants.Value z next → Wrote s k at z next)
+    go : (t : S.Step) → ((z : ℤ) (next : ℕ) → t ≡ S.the-variants.Value z next → Wrote s k at z next × T (inRange k z))
         → ((z : ℤ) (next : ℕ) → gather i s (k + 1) next (set acc k z) (cond (eqb k 11) at m) (cond (eqb k 13) at m′) ≡ acceptance vs n → Gathered s (k + 1) next (set acc k z) vs n)
         → onStep t (λ z next. gather i s (k + 1) next (set acc k z) (cond (eqb k 11) at m) (cond (eqb k 13) at m′)) ≡ acceptance vs n → Gathered s k at acc vs n
     go (S.the-variants.Value z next) wrote rest e =
-        let w = wrote z next refl in
+        let both = wrote z next refl in
+        let w = both .0 in
         let r = rest z next e in
-        let room : k < length acc = omega (arith, below-51 k z (w .ranged)) in
+        let room : k < length acc = omega (arith, below-51 k z (both .1)) in
         record {
           later = z ∷ r .later;
           words = w .words ++ r .words;
-          from = datum (w .written) (w .ranged) (subst (λ (j : ℕ). DataFrom j (r .later) (r .words)) (add-one k) (r .from));
+          from = datum (w .written) (both .1) (subst (λ (j : ℕ). DataFrom j (r .later) (r .words)) (add-one k) (r .from));
           values = r .values ∙ one-more acc k z (r .later) room;
           here = w .here ∙ ap (λ (t : List ℕ). w .words ++ t) (r .here) ∙ sym (append-assoc (w .words) (r .words) (drop n s));
           far = omega (arith, w .far, r .far, length-append (w .words) (r .words));

@@ -85,6 +85,9 @@ pieces-written s at (suc n) bits b e =
 
 -- ---- a datum in a form with n pieces
 
+pub datum-word : (s : List ℕ) (at : ℕ) {k f : ℕ} → wordAt s at ≡ W.Datum k f → IsWord (getD s at 0) (W.Datum k f)
+datum-word s at h = read-at s at h (λ x. let y : _≡_ {A = ℕ} 0 1 = cc in omega arith)
+
 module _ (s : List ℕ) (k at f n : ℕ) (made : ℕ → D.Datum) (form : (i : ℕ) → byForm s i f ≡ formAt n made s i) where
   pub form-reads : {w b : ℕ} {ws : List ℕ} (rest : List ℕ) → IsWord w (W.Datum k f) → InPieces n b ws → drop at s ≡ w ∷ (ws ++ rest) →
       datumAt s k at ≡ R.the-variants.Datum (made b) (at + suc (length ws))
@@ -144,7 +147,6 @@ written-reads {k} {z} (double {b} h p is) r s at rest e =
 pub record Wrote (s : List ℕ) (k at : ℕ) (z : ℤ) (next : ℕ) : Type 0 where
   pub words : List ℕ
   pub written : Written k z words
-  pub ranged : T (inRange k z)
   pub here : drop at s ≡ words ++ drop next s
   pub far : next ≡ at + length words
 
@@ -155,51 +157,49 @@ of-whole x z = go (wholeOf x) refl
     go (H.the-variants.Is y) q e = let same : y ≡ z = cc in stands x z .0 (q ∙ ap H.the-variants.Is same)
     go H.the-variants.Not q e = never (cc)
 
-pub read-written : (s : List ℕ) (k at : ℕ) (z : ℤ) (next : ℕ) → stepAt s k at ≡ S.the-variants.Value z next → Wrote s k at z next
-unfolding stepAt datumAt unitsOf
+-- a datum in whole units was written
+pub datum-written : (s : List ℕ) (k at : ℕ) (d : D.Datum) (z : ℤ) (next : ℕ) → datumAt s k at ≡ R.the-variants.Datum d next → unitsOf d ≡ U.the-variants.Are z → Wrote s k at z next
+unfolding datumAt unitsOf
+datum-written s k at d z next e₀ u₀ =
+    let x = is-datum (wordAt s at) (λ m f. cond (eqb m k) (byForm s (at + 1) f) (R.the-variants.Bad at)) (R.the-variants.Bad at) (R.the-variants.Datum d next) e₀ (λ y. let y : _≡_ {A = ℕ} 0 1 = cc in omega arith) in
+    by-number (x .0) (x .1) (eqb (x .0) k) refl (x .2) (x .3)
+  where
+    made-by : (w : ℕ) (ws : List ℕ) → Written k z (w ∷ ws) → drop at s ≡ w ∷ (ws ++ drop next s) → next ≡ at + suc (length ws) → Wrote s k at z next
+    made-by w ws x h f = record { words = w ∷ ws; written = x; here = h; far = f }
+
+    by-form : (f : ℕ) → wordAt s at ≡ W.Datum k f → byForm s (at + 1) f ≡ R.the-variants.Datum d next → Wrote s k at z next
+    by-form zero word e =
+        let x = form-written s k at 0 2 (λ b. D.the-variants.Whole (twos 2147483648 b)) (λ i. refl) word e in
+        let is : twos 2147483648 (x .0) ≡ z = cc (sym (ap unitsOf (x .3)) ∙ u₀) in
+        made-by (getD s at 0) (x .1) (subst (λ (y : ℤ). Written k y (getD s at 0 ∷ x .1)) is (whole (datum-word s at word) (x .2))) (x .4) (x .5)
+    by-form (suc zero) word e =
+        let x = form-written s k at 1 2 (λ b. D.the-variants.Single (ofBits binary32 b)) (λ i. refl) word e in
+        made-by (getD s at 0) (x .1) (single (datum-word s at word) (x .2) (of-whole (ofBits binary32 (x .0)) z (sym (ap unitsOf (x .3)) ∙ u₀))) (x .4) (x .5)
+    by-form (suc (suc zero)) word e =
+        let x = form-written s k at 2 4 (λ b. D.the-variants.Double (ofBits binary64 b)) (λ i. refl) word e in
+        made-by (getD s at 0) (x .1) (double (datum-word s at word) (x .2) (of-whole (ofBits binary64 (x .0)) z (sym (ap unitsOf (x .3)) ∙ u₀))) (x .4) (x .5)
+    by-form (suc (suc (suc f))) word e = let is : D.the-variants.Open ≡ d = cc in never (cc (ap unitsOf is ∙ u₀))
+
+    by-number : (m f : ℕ) (t : Bool) → eqb m k ≡ t → wordAt s at ≡ W.Datum m f → cond t (byForm s (at + 1) f) (R.the-variants.Bad at) ≡ R.the-variants.Datum d next → Wrote s k at z next
+    by-number m f true q word e = by-form f (word ∙ ap (λ (i : ℕ). W.Datum i f) (eqb-true m k q)) e
+    by-number m f false q word e = never (cc)
+
+pub read-written : (s : List ℕ) (k at : ℕ) (z : ℤ) (next : ℕ) → stepAt s k at ≡ S.the-variants.Value z next → Wrote s k at z next × T (inRange k z)
+unfolding stepAt
 read-written s k at z next = by-read (datumAt s k at) refl
   where
-    made-by : (w : ℕ) (ws : List ℕ) → Written k z (w ∷ ws) → T (inRange k z) → drop at s ≡ w ∷ (ws ++ drop next s) → next ≡ at + suc (length ws) → Wrote s k at z next
-    made-by w ws x r h f = record { words = w ∷ ws; written = x; ranged = r; here = h; far = f }
-
-    word-is : {f : ℕ} → wordAt s at ≡ W.Datum k f → IsWord (getD s at 0) (W.Datum k f)
-    word-is h = read-at s at h (λ x. let y : _≡_ {A = ℕ} 0 1 = cc in omega arith)
-
-    by-form : (d : D.Datum) (f : ℕ) → wordAt s at ≡ W.Datum k f → byForm s (at + 1) f ≡ R.the-variants.Datum d next → unitsOf d ≡ U.the-variants.Are z → T (inRange k z) → Wrote s k at z next
-    by-form d zero word e u r =
-        let x = form-written s k at 0 2 (λ b. D.the-variants.Whole (twos 2147483648 b)) (λ i. refl) word e in
-        let is : twos 2147483648 (x .0) ≡ z = cc (ap unitsOf (x .3)) in
-        made-by (getD s at 0) (x .1) (subst (λ (y : ℤ). Written k y (getD s at 0 ∷ x .1)) is (whole (word-is word) (x .2))) r (x .4) (x .5)
-    by-form d (suc zero) word e u r =
-        let x = form-written s k at 1 2 (λ b. D.the-variants.Single (ofBits binary32 b)) (λ i. refl) word e in
-        made-by (getD s at 0) (x .1) (single (word-is word) (x .2) (of-whole (ofBits binary32 (x .0)) z (sym (ap unitsOf (x .3)) ∙ u))) r (x .4) (x .5)
-    by-form d (suc (suc zero)) word e u r =
-        let x = form-written s k at 2 4 (λ b. D.the-variants.Double (ofBits binary64 b)) (λ i. refl) word e in
-        made-by (getD s at 0) (x .1) (double (word-is word) (x .2) (of-whole (ofBits binary64 (x .0)) z (sym (ap unitsOf (x .3)) ∙ u))) r (x .4) (x .5)
-    by-form d (suc (suc (suc f))) word e u r = let is : D.the-variants.Open ≡ d = cc in never (cc (ap unitsOf is))
-
-    by-number : (d : D.Datum) (m f : ℕ) (t : Bool) → eqb m k ≡ t → wordAt s at ≡ W.Datum m f → cond t (byForm s (at + 1) f) (R.the-variants.Bad at) ≡ R.the-variants.Datum d next →
-        unitsOf d ≡ U.the-variants.Are z → T (inRange k z) → Wrote s k at z next
-    by-number d m f true q word e u r = by-form d f (word ∙ ap (λ (i : ℕ). W.Datum i f) (eqb-true m k q)) e u r
-    by-number d m f false q word e u r = never (cc)
-
-    by-datum : (d : D.Datum) → datumAt s k at ≡ R.the-variants.Datum d next → unitsOf d ≡ U.the-variants.Are z → T (inRange k z) → Wrote s k at z next
-    by-datum d e u r =
-        let x = is-datum (wordAt s at) (λ m f. cond (eqb m k) (byForm s (at + 1) f) (R.the-variants.Bad at)) (R.the-variants.Bad at) (R.the-variants.Datum d next) e (λ y. let y : _≡_ {A = ℕ} 0 1 = cc in omega arith) in
-        by-number d (x .0) (x .1) (eqb (x .0) k) refl (x .2) (x .3) u r
-
     by-range : (d : D.Datum) (n : ℕ) (y : ℤ) (t : Bool) → inRange k y ≡ t → datumAt s k at ≡ R.the-variants.Datum d n → unitsOf d ≡ U.the-variants.Are y →
-        cond t (S.the-variants.Value y n) (S.the-variants.Refused 4 at) ≡ S.the-variants.Value z next → Wrote s k at z next
+        cond t (S.the-variants.Value y n) (S.the-variants.Refused 4 at) ≡ S.the-variants.Value z next → Wrote s k at z next × T (inRange k z)
     by-range d n y true q read u e =
         let value : y ≡ z = cc in
         let place : n ≡ next = cc in
-        by-datum d (read ∙ ap (R.the-variants.Datum d) place) (u ∙ ap U.the-variants.Are value) (subst (λ (v : ℤ). T (inRange k v)) value (subst T (sym q) tt))
+        (datum-written s k at d z next (read ∙ ap (R.the-variants.Datum d) place) (u ∙ ap U.the-variants.Are value), subst (λ (v : ℤ). T (inRange k v)) value (subst T (sym q) tt))
     by-range d n y false q read u e = never (cc)
 
-    by-unit : (d : D.Datum) (n : ℕ) (u : U.Units) → unitsOf d ≡ u → datumAt s k at ≡ R.the-variants.Datum d n → ofUnits k at n u ≡ S.the-variants.Value z next → Wrote s k at z next
+    by-unit : (d : D.Datum) (n : ℕ) (u : U.Units) → unitsOf d ≡ u → datumAt s k at ≡ R.the-variants.Datum d n → ofUnits k at n u ≡ S.the-variants.Value z next → Wrote s k at z next × T (inRange k z)
     by-unit d n (U.the-variants.Are y) q read e = by-range d n y (inRange k y) refl read q e
     by-unit d n (U.the-variants.Refused i) q read e = never (cc)
 
-    by-read : (x : R.DatumRead) → datumAt s k at ≡ x → ofRead k at x ≡ S.the-variants.Value z next → Wrote s k at z next
+    by-read : (x : R.DatumRead) → datumAt s k at ≡ x → ofRead k at x ≡ S.the-variants.Value z next → Wrote s k at z next × T (inRange k z)
     by-read (R.the-variants.Datum d n) q e = by-unit d n (unitsOf d) refl q e
     by-read (R.the-variants.Bad place) q e = never (cc)

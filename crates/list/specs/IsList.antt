@@ -23,10 +23,14 @@ pub data Written (k : ℕ) : ℤ → List ℕ → Type 0 where
   single : {w b : ℕ} {ws : List ℕ} {z : ℤ} → IsWord w (Datum k 1) → InPieces 2 b ws → StandsFor (ofBits binary32 b) z → Written k z (w ∷ ws)
   double : {w b : ℕ} {ws : List ℕ} {z : ℤ} → IsWord w (Datum k 2) → InPieces 4 b ws → StandsFor (ofBits binary64 b) z → Written k z (w ∷ ws)
 
--- "the data in number order", each in its range: those from number k on, their values and their words
-pub data DataFrom : ℕ → List ℤ → List ℕ → Type 0 where
-  end : DataFrom 51 [] []
-  datum : {k : ℕ} {z : ℤ} {vs : List ℤ} {w ws : List ℕ} → Written k z w → T (inRange k z) → DataFrom (suc k) vs ws → DataFrom k (z ∷ vs) (w ++ ws)
+-- "the data in number order", each in its range: those from number k on and before number j, their values and their words
+pub data DataTo (j : ℕ) : ℕ → List ℤ → List ℕ → Type 0 where
+  end : DataTo j j [] []
+  datum : {k : ℕ} {z : ℤ} {vs : List ℤ} {w ws : List ℕ} → Written k z w → T (inRange k z) → DataTo j (suc k) vs ws → DataTo j k (z ∷ vs) (w ++ ws)
+
+-- all those from number k on
+abbrev pub DataFrom : ℕ → List ℤ → List ℕ → Type 0
+DataFrom = DataTo 51
 
 -- "A list is a head and the data in number order", and each SE minus is below its plus
 pub data IsList : List ℤ → List ℕ → Type 0 where

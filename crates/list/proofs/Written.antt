@@ -133,15 +133,19 @@ step-value : (s : List ℕ) (k at : ℕ) {d : D.Datum} {next : ℕ} {z : ℤ} �
     stepAt s k at ≡ S.the-variants.Value z next
 step-value s k at {d} {next} {z} read units r = sym (by-units s k at read units) ∙ simp (is-true (inRange k z) r)
 
+pub written-datum : {k : ℕ} {z : ℤ} {w : List ℕ} → Written k z w → (s : List ℕ) (at : ℕ) (rest : List ℕ) → drop at s ≡ w ++ rest →
+    (d : D.Datum) × (datumAt s k at ≡ R.the-variants.Datum d (at + length w)) × (unitsOf d ≡ U.the-variants.Are z)
+unfolding unitsOf
+written-datum {k} (whole {b = b} h p) s at rest e =
+    (D.the-variants.Whole (twos 2147483648 b), form-reads s k at 0 2 (λ b. D.the-variants.Whole (twos 2147483648 b)) (λ i. refl) rest h p e, refl)
+written-datum {k} {z} (single {b = b} h p is) s at rest e =
+    (D.the-variants.Single (ofBits binary32 b), form-reads s k at 1 2 (λ b. D.the-variants.Single (ofBits binary32 b)) (λ i. refl) rest h p e, ap ofWhole (stands (ofBits binary32 b) z .1 is))
+written-datum {k} {z} (double {b = b} h p is) s at rest e =
+    (D.the-variants.Double (ofBits binary64 b), form-reads s k at 2 4 (λ b. D.the-variants.Double (ofBits binary64 b)) (λ i. refl) rest h p e, ap ofWhole (stands (ofBits binary64 b) z .1 is))
+
 pub written-reads : {k : ℕ} {z : ℤ} {w : List ℕ} → Written k z w → T (inRange k z) → (s : List ℕ) (at : ℕ) (rest : List ℕ) → drop at s ≡ w ++ rest →
     stepAt s k at ≡ S.the-variants.Value z (at + length w)
-unfolding unitsOf
-written-reads {k} (whole h p) r s at rest e =
-    step-value s k at (form-reads s k at 0 2 (λ b. D.the-variants.Whole (twos 2147483648 b)) (λ i. refl) rest h p e) refl r
-written-reads {k} {z} (single {b} h p is) r s at rest e =
-    step-value s k at (form-reads s k at 1 2 (λ b. D.the-variants.Single (ofBits binary32 b)) (λ i. refl) rest h p e) (ap ofWhole (stands (ofBits binary32 b) z .1 is)) r
-written-reads {k} {z} (double {b} h p is) r s at rest e =
-    step-value s k at (form-reads s k at 2 4 (λ b. D.the-variants.Double (ofBits binary64 b)) (λ i. refl) rest h p e) (ap ofWhole (stands (ofBits binary64 b) z .1 is)) r
+written-reads {k} h r s at rest e = let d = written-datum h s at rest e in step-value s k at (d .1) (d .2) r
 
 -- the words of a datum that was read: those from `at` up to `next`
 pub record Wrote (s : List ℕ) (k at : ℕ) (z : ℤ) (next : ℕ) : Type 0 where

@@ -1,3 +1,4 @@
 pub mod Datum
 pub mod Reading
 pub mod IsList
+pub mod IsFault

@@ -30,62 +30,12 @@ use Rattle.list.specs.Reading.{stepAt, acceptance, refusal, ends, onStep
 use Rattle.list.specs.IsList.{DataFrom, end, datum, IsList, list}
 use Rattle.list.proofs.Steps.{ended-by, after-head}
 use Rattle.words.proofs.Front.{front-reads, front-is}
-use Rattle.list.proofs.Written.{written-reads, Wrote, read-written}
-
-below-51 : (k : ℕ) (z : ℤ) → T (inRange k z) → k < 51
-unfolding inRange
-below-51 k z r = ltb→lt k 51 (and-l (ltb k 51) (leZ (lowOf k) z) (and-l (ltb k 51 && leZ (lowOf k) z) (leZ z (highOf k)) r))
-
--- the values with those of k and later, once k is set
-one-more : (acc : List ℤ) (k : ℕ) (z : ℤ) (vs : List ℤ) → k < length acc → take (k + 1) (set acc k z) ++ vs ≡ take k acc ++ (z ∷ vs)
-one-more acc k z vs h =
-    ap (λ (i : ℕ). take i (set acc k z) ++ vs) (add-one k)
-    ∙ ap (λ (l : List ℤ). l ++ vs) (take-suc-set acc k z h)
-    ∙ append-assoc (take k acc) (z ∷ []) vs
-
-behind : (s : List ℕ) (at : ℕ) (w rest : List ℕ) → drop at s ≡ w ++ rest → drop (at + length w) s ≡ rest
-behind s at w rest e = sym (drop-drop (length w) at s) ∙ ap (drop (length w)) e ∙ drop-append-seam w rest
+use Rattle.list.proofs.Written.{Wrote, read-written}
+use Rattle.list.proofs.Passed.{below-51, one-more, placeIn, all-passed}
 
 -- ---- what is written is accepted
 
-pub record Ended (r : ListRead) (vs : List ℤ) (at : ℕ) : Type 0 where
-  pub m : ℕ
-  pub m′ : ℕ
-  pub is : r ≡ ends vs m m′ at
-
-gathered : (n : ℕ) {k : ℕ} {vs : List ℤ} {ws : List ℕ} → DataFrom k vs ws → n + k ≡ 51 → (s : List ℕ) (at : ℕ) (rest : List ℕ) → drop at s ≡ ws ++ rest →
-    (acc : List ℤ) → length acc ≡ 51 → (m m′ : ℕ) → Ended (gather n s k at acc m m′) (take k acc ++ vs) (at + length ws)
-unfolding gather
-gathered zero end c s at rest e acc l m m′ =
-    let here : at ≡ at + 0 = omega arith in
-    record { m = m; m′ = m′; is = λ i. ends ((sym (append-nil (take 51 acc) ∙ take-all 51 acc (omega arith))) i) m m′ (here i) }
-gathered zero (datum {k} {z} w r d) c s at rest e acc l m m′ = absurd (go (below-51 k z r))
-  where
-    go : k < 51 → ⊥
-    go h = omega arith
-gathered (suc n) end c s at rest e acc l m m′ = absurd (go c)
-  where
-    go : suc n + 51 ≡ 51 → ⊥
-    go h = omega arith
-gathered (suc n) (datum {k} {z} {vs} {w} {ws} h r d) c s at rest e acc l m m′ =
-    let more : n + suc k ≡ 51 = omega arith in
-    let room : k < length acc = omega (arith, below-51 k z r) in
-    let far : at + length w + length ws ≡ at + length (w ++ ws) = omega (arith, length-append w ws) in
-    let e′ : drop at s ≡ w ++ (ws ++ rest) = e ∙ append-assoc w ws rest in
-    let read = written-reads h r s at (ws ++ rest) e′ in
-    let x = gathered n d more s (at + length w) rest (behind s at w (ws ++ rest) e′) (set acc k z) (length-set acc k z ∙ l) (cond (eqb k 11) at m) (cond (eqb k 13) at m′) in
-    let values : take (suc k) (set acc k z) ++ vs ≡ take k acc ++ (z ∷ vs) = ap (λ (i : ℕ). take i (set acc k z) ++ vs) (sym (add-one k)) ∙ one-more acc k z vs room in
-    record {
-      m = x .m;
-      m′ = x .m′;
-      is =
-          ap (λ (t : S.Step). onStep t (λ y next. gather n s (k + 1) next (set acc k y) (cond (eqb k 11) at m) (cond (eqb k 13) at m′))) read
-          ∙ ap (λ (i : ℕ). gather n s i (at + length w) (set acc k z) (cond (eqb k 11) at m) (cond (eqb k 13) at m′)) (add-one k)
-          ∙ x .is
-          ∙ (λ i. ends (values i) (x .m) (x .m′) (far i));
-    }
-
-not-le : (a b : ℤ) → T (ltZ a b) → leZ b a ≡ false
+pub not-le : (a b : ℤ) → T (ltZ a b) → leZ b a ≡ false
 not-le a b h = go (leZ b a) refl
   where
     go : (t : Bool) → leZ b a ≡ t → leZ b a ≡ false
@@ -95,11 +45,10 @@ not-le a b h = go (leZ b a) refl
 pub accepts : {vs : List ℤ} {ws : List ℕ} → IsList vs ws → (rest : List ℕ) → readList (ws ++ rest) ≡ acceptance vs (length ws)
 accepts (list {w} {vs} {ws} h d below1 below2) rest =
     let s = w ∷ (ws ++ rest) in
-    let x = gathered 51 d refl s 1 rest refl zeros (length-replicate 51 (pos 0)) 0 0 in
     let far : 1 + length ws ≡ suc (length ws) = omega arith in
     sym (after-head s (front-reads s 0 w (ws ++ rest) refl h))
-    ∙ x .is
-    ∙ sym (ended-by vs (x .m) (x .m′) (1 + length ws) (not-le (getD vs 11 (pos 0)) (getD vs 12 (pos 0)) below1) (not-le (getD vs 13 (pos 0)) (getD vs 14 (pos 0)) below2))
+    ∙ all-passed d s rest refl
+    ∙ sym (ended-by vs (placeIn d 11 1 0) (placeIn d 13 1 0) (1 + length ws) (not-le (getD vs 11 (pos 0)) (getD vs 12 (pos 0)) below1) (not-le (getD vs 13 (pos 0)) (getD vs 14 (pos 0)) below2))
     ∙ ap (acceptance vs) far
 
 -- ---- what is accepted was written
@@ -117,7 +66,7 @@ pub record Gathered (s : List ℕ) (k at : ℕ) (acc vs : List ℤ) (n : ℕ) : 
 answer : {a b : ListRead} → a ≡ b → a .answer ≡ b .answer
 answer e = ap (λ (r : ListRead). r .answer) e
 
-lt-of-not-le : (a b : ℤ) → leZ b a ≡ false → T (ltZ a b)
+pub lt-of-not-le : (a b : ℤ) → leZ b a ≡ false → T (ltZ a b)
 lt-of-not-le a b h = go (ltZ a b) refl
   where
     go : (t : Bool) → ltZ a b ≡ t → T t

@@ -3,4 +3,6 @@ pub mod Forms
 pub mod Steps
 pub mod Written
 pub mod Faults
+pub mod Passed
 pub mod Accepts
+pub mod Refuses

@@ -3,16 +3,15 @@
 use mathlib.Core.Path.{_≡_, refl, sym, ap, _∙_, subst}
 use mathlib.Core.Logic.{_↔_}
 use mathlib.Core.List.{List, [], _∷_, _++_, append-assoc, append-nil}
-use mathlib.Core.Bool.{Bool, true, false, not, cond, _&&_}
+use mathlib.Core.Bool.{Bool, true, false, not, cond}
 use Prim.Native.Nat.{ℕ, zero, suc, _+_, _≤_, _<_}
 use native.Mathlib.Numerals.{add-one}
 use native.Mathlib.Omega.{arith}
 use lib.ListN.{length, getD, take, drop, set, length-set, length-append, length-replicate, take-append-drop}
-use lib.Seq.{drop-drop, drop-append-seam, take-all, take-at, take-suc-set, length-take-le}
+use lib.Seq.{take-all, take-at, length-take-le}
 use lib.IntN.{ℤ, pos}
 use lib.Signed.{ltZ, leZ, ltZ-yes, leZ-yes, ltZ-no, clashℤ}
-use lib.Dec.{T, ltb, eqb, ltb→lt}
-use lib.Ieee.Fits.{and-l}
+use lib.Dec.{T, eqb}
 use lib.Ieee.Bits.{is-true}
 use Rattle.words.proofs.Absurd.{never}
 use Rattle.words.specs.declared.Word.{Word}
@@ -21,7 +20,7 @@ use Rattle.words.specs.Words.{wordAt}
 use Rattle.words.specs.Cases.{ifHead}
 use Rattle.words.proofs.IsWord.{read-at}
 use Rattle.words.proofs.Cases.{is-head, there}
-use Rattle.machine_data.specs.Table.{lowOf, highOf, inRange}
+use Rattle.machine_data.specs.Table.{inRange}
 use Rattle.machine_data.specs.Data.{InRanges}
 use Rattle.list.specs.declared.ListRead.{ListRead}
 use Rattle.list.specs.declared.ListAnswer as A

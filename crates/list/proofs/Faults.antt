@@ -1,6 +1,6 @@
 -- One datum's fault: what is refused is faulty, and what is faulty is refused, by its number and place. Assumes nothing.
 use mathlib.Core.Path.{_≡_, refl, sym, ap, _∙_, subst}
-use mathlib.Core.List.{List, [], _∷_, _++_}
+use mathlib.Core.List.{List, _∷_}
 use mathlib.Core.Bool.{Bool, true, false, cond}
 use Prim.Native.Nat.{ℕ, zero, suc, _+_, _*_, _<_}
 use native.Mathlib.Omega.{arith}
@@ -12,7 +12,7 @@ use Rattle.words.proofs.Absurd.{never}
 use Rattle.words.specs.declared.Word.{Word}
 use Rattle.words.specs.declared.Word.the-variants as W
 use Rattle.words.specs.Words.{wordAt, twos}
-use Rattle.words.specs.Cases.{ifPiece, ifDatum}
+use Rattle.words.specs.Cases.{ifPiece}
 use Rattle.words.specs.IsWord.{IsWord}
 use Rattle.words.specs.IsWord as I
 use Rattle.words.specs.Breaks.{a-piece, a-datum, fits, Lacks, Breaks, here, later}
@@ -30,7 +30,6 @@ use Rattle.list.specs.declared.Units as U
 use Rattle.list.specs.declared.Step as S
 use Rattle.list.specs.Datum.{piecesAt, onPieces, formAt, byForm, datumAt, ofWhole, unitsOf}
 use Rattle.list.specs.Reading.{stepAt, ofRead, ofUnits}
-use Rattle.list.specs.IsList.{InPieces, Written}
 use Rattle.list.specs.IsFault.{HasPieces, whole, single, double, pieces, DatumFault, no-datum, no-piece, is-open, no-single, no-double, beyond}
 use Rattle.list.proofs.Forms.{form-is, of-form}
 use Rattle.list.proofs.Steps.{step-bad, by-units}

@@ -2,7 +2,7 @@
 use mathlib.Core.Path.{_≡_, refl, sym, ap, _∙_}
 use mathlib.Core.List.{List, [], _∷_, _++_, append-assoc, append-nil}
 use mathlib.Core.Bool.{Bool, cond, _&&_}
-use Prim.Native.Nat.{ℕ, zero, suc, _+_, _≤_, _<_}
+use Prim.Native.Nat.{ℕ, suc, _+_, _<_}
 use native.Mathlib.Numerals.{add-one}
 use native.Mathlib.Omega.{arith}
 use lib.ListN.{length, take, drop, set, length-set, length-append, length-replicate}
@@ -29,7 +29,7 @@ one-more acc k z vs h =
     ∙ ap (λ (l : List ℤ). l ++ vs) (take-suc-set acc k z h)
     ∙ append-assoc (take k acc) (z ∷ []) vs
 
-behind : (s : List ℕ) (at : ℕ) (w rest : List ℕ) → drop at s ≡ w ++ rest → drop (at + length w) s ≡ rest
+pub behind : (s : List ℕ) (at : ℕ) (w rest : List ℕ) → drop at s ≡ w ++ rest → drop (at + length w) s ≡ rest
 behind s at w rest e = sym (drop-drop (length w) at s) ∙ ap (drop (length w)) e ∙ drop-append-seam w rest
 
 -- ---- the place of datum p among some data, the first of them at a place; else what it was before

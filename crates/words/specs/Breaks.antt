@@ -2,7 +2,7 @@
 use Prim.Native.Nat.{ℕ, suc}
 use mathlib.Core.Path.{_≡_}
 use mathlib.Core.Bool.{Bool, true, false}
-use mathlib.Core.List.{List, [], _∷_}
+use mathlib.Core.List.{List, _∷_}
 use lib.Dec.{T, eqb}
 use Rattle.words.specs.declared.Word.{Word}
 use Rattle.words.specs.Cases.{ifHead, ifDatum, ifPiece, ifPosition, ifLower, ifUpper, ifEnd, ifRemark}

@@ -104,9 +104,9 @@ not-whole x {i} = go (wholeOf x) refl
     go (H.the-variants.Is y) q e = never (cc)
     go H.the-variants.Not q e = (cc, λ z h. let is : H.the-variants.Is z ≡ H.the-variants.Not = sym (whole-proofs.stands x z .1 h) ∙ q in never (cc))
 
-no-t : (b : Bool) → (T b → ⊥) → b ≡ false
-no-t true h = absurd (h tt)
-no-t false h = refl
+not-so : (b : Bool) → (T b → ⊥) → b ≡ false
+not-so true h = absurd (h tt)
+not-so false h = refl
 
 few-forms : {w k f : ℕ} → IsWord w (W.Datum k f) → f < 4
 few-forms (I.datum a b) = b
@@ -115,7 +115,7 @@ few-forms (I.datum a b) = b
 
 module _ (s : List ℕ) (k at : ℕ) where
   -- the word of datum k stands here, or it does not
-  pub here-or-not : {A : Type 0} → ((f : ℕ) → wordAt s at ≡ W.Datum k f → A) → (fits (a-datum k) (wordAt s at) ≡ false → A) → A
+  here-or-not : {A : Type 0} → ((f : ℕ) → wordAt s at ≡ W.Datum k f → A) → (fits (a-datum k) (wordAt s at) ≡ false → A) → A
   here-or-not {A} found lost = go (fits (a-datum k) (wordAt s at)) refl
     where
       go : (t : Bool) → fits (a-datum k) (wordAt s at) ≡ t → A
@@ -222,6 +222,6 @@ fault-step {k} (no-double {w} {b} {ps} ws h p none) s at e =
     ∙ ap (S.the-variants.Refused 3) {x = at} {y = at + 0} (omega arith)
 fault-step {k} (beyond {z} {w} ws h out) s at e =
     let d = written-datum h s at ws e in
-    let q : inRange k z ≡ false = no-t (inRange k z) out in
+    let q : inRange k z ≡ false = not-so (inRange k z) out in
     sym (by-units s k at (d .1) (d .2)) ∙ ap (λ (t : Bool). cond t (S.the-variants.Value z (at + length w)) (S.the-variants.Refused 4 at)) q
     ∙ ap (S.the-variants.Refused 4) {x = at} {y = at + 0} (omega arith)

@@ -188,6 +188,17 @@ whole-answer s n = go (outcome s)
     go (as-accepted vs i) e = ap (acceptance vs) {x = i} {y = n} (cc)
     go (as-refused number place) e = never (cc)
 
+-- and one that refuses the whole of a refusal
+pub whole-refusal : (s : List ℕ) (n place : ℕ) → readList s .answer ≡ A.the-variants.Refused n place → readList s ≡ refusal n place
+whole-refusal s n place = go (outcome s)
+  where
+    go : {r : ListRead} → Outcome r → r .answer ≡ A.the-variants.Refused n place → r ≡ refusal n place
+    go (as-accepted vs i) e = never (cc)
+    go (as-refused i p) e =
+        let number : i ≡ n = cc in
+        let spot : p ≡ place = cc in
+        λ j. refusal (number j) (spot j)
+
 -- an accepted list has at most the words given
 pub used-words : (s : List ℕ) (n : ℕ) → readList s .answer ≡ A.the-variants.Accepted n → n ≤ length s
 used-words s n e = accepted s (readList s .list .values) n .0 (whole-answer s n e) .0

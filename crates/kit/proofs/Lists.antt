@@ -10,14 +10,13 @@ use Rattle.words.proofs.Absurd.{never}
 use Rattle.list.specs.declared.ListRead.{ListRead}
 use Rattle.list.specs.declared.ListAnswer as A
 use Rattle.list.specs.Reading.{readList, acceptance}
-use Rattle.list.proofs.Accepts.{used-words, accepted, whole-answer, whole-refusal}
-use Rattle.list.proofs.Refuses.{refused}
+use Rattle.list.proofs.Accepts.{used-words, accepted, whole-answer}
 use Rattle.kit.specs.Kit.{first, second, readKit}
 use mathlib.Core.Logic.{_↔_}
 use lib.IntN.{ℤ}
 use Rattle.kit.specs.declared.KitRead.{KitRead}
 use Rattle.kit.specs.declared.KitAnswer as K
-use Rattle.kit.specs.IsKit.{IsKit, KitFault, in-a, in-b, acceptance as accepting}
+use Rattle.kit.specs.IsKit.{IsKit, acceptance as accepting}
 
 -- `&s[n..]` is what stands behind n words
 pub rest-is : (s : List ℕ) (n : ℕ) → take (length s - n) (drop n s) ≡ drop n s
@@ -91,27 +90,3 @@ kit-used s log = go (readList s .answer) refl
     go : (x : A.ListAnswer) → readList s .answer ≡ x → first s (readList s) x .answer ≡ K.the-variants.Accepted log → log ≤ length s
     go (A.the-variants.Accepted n) h e = at-second n h (readList (drop n s) .answer) refl e
     go (A.the-variants.Refused i p) h e = never (cc)
-
--- a faulty kit is refused, with the list, the number and the place
-pub faulty-kit : (s : List ℕ) {x : K.KitAnswer} → KitFault s x → readKit s .answer ≡ x
-unfolding readKit
-faulty-kit s (in-a {number} {place} f) = ap (λ (r : ListRead). first s r (r .answer) .answer) (refused s number place .1 f)
-faulty-kit s (in-b {n} {number} {place} {a} low is f) =
-    ap (λ (r : ListRead). first s r (r .answer) .answer) (accepted s a n .1 (low, is))
-    ∙ ap (λ (r : ListRead). second n (record { values = a; count = 51 }) r (r .answer) .answer) (refused (drop n s) number place .1 f)
-
--- and a kit that is not accepted is faulty where it is refused
-pub kit-faulty : (s : List ℕ) → ((log : ℕ) → readKit s .answer ≡ K.the-variants.Accepted log → ⊥) → KitFault s (readKit s .answer)
-unfolding readKit
-kit-faulty s = go (readList s .answer) refl
-  where
-    at-second : (n : ℕ) → readList s .answer ≡ A.the-variants.Accepted n → (x : A.ListAnswer) → readList (drop n s) .answer ≡ x →
-        ((log : ℕ) → second n (readList s .list) (readList (drop n s)) x .answer ≡ K.the-variants.Accepted log → ⊥) → KitFault s (second n (readList s .list) (readList (drop n s)) x .answer)
-    at-second n h (A.the-variants.Accepted m) g none = absurd (none (n + m) refl)
-    at-second n h (A.the-variants.Refused i p) g none =
-        let front = accepted s (readList s .list .values) n .0 (whole-answer s n h) in
-        in-b (front .0) (front .1) (refused (drop n s) i p .0 (whole-refusal (drop n s) i p g))
-
-    go : (x : A.ListAnswer) → readList s .answer ≡ x → ((log : ℕ) → first s (readList s) x .answer ≡ K.the-variants.Accepted log → ⊥) → KitFault s (first s (readList s) x .answer)
-    go (A.the-variants.Accepted n) h none = at-second n h (readList (drop n s) .answer) refl none
-    go (A.the-variants.Refused i p) h none = in-a (refused s i p .0 (whole-refusal s i p h))

@@ -5,9 +5,8 @@ use mathlib.Core.List.{List}
 use lib.ListN.{length, take, drop}
 use lib.IntN.{ℤ}
 use Rattle.list.specs.IsList.{IsList}
-use Rattle.list.specs.IsFault.{IsFault}
 use Rattle.kit.specs.declared.KitRead.{KitRead}
-use Rattle.kit.specs.declared.KitAnswer as K
+use Rattle.kit.specs.declared.KitAnswer.the-variants.{Accepted}
 
 -- a list of n words at the front, another of m words right behind it, and the log from there on
 pub record IsKit (s : List ℕ) (a b : List ℤ) (log : ℕ) : Type 0 where
@@ -18,9 +17,4 @@ pub record IsKit (s : List ℕ) (a b : List ℤ) (log : ℕ) : Type 0 where
   pub behind : log ≡ n + m
 
 abbrev pub acceptance : List ℤ → List ℤ → ℕ → KitRead
-acceptance a b log = record { answer = K.the-variants.Accepted log; a = record { values = a; count = 51 }; b = record { values = b; count = 51 } }
-
--- a refused kit: list A is faulty, or A is a list and what stands behind it is faulty as list B; "Places count from 0 in the part given"
-pub data KitFault (s : List ℕ) : K.KitAnswer → Type 0 where
-  in-a : {number place : ℕ} → IsFault s number place → KitFault s (K.the-variants.RefusedA number place)
-  in-b : {n number place : ℕ} {a : List ℤ} → n ≤ length s → IsList a (take n s) → IsFault (drop n s) number place → KitFault s (K.the-variants.RefusedB number place)
+acceptance a b log = record { answer = Accepted log; a = record { values = a; count = 51 }; b = record { values = b; count = 51 } }

@@ -2,7 +2,5 @@ pub mod Joined
 pub mod Forms
 pub mod Steps
 pub mod Written
-pub mod Faults
 pub mod Passed
 pub mod Accepts
-pub mod Refuses

@@ -1,4 +1,3 @@
 pub mod Datum
 pub mod Reading
 pub mod IsList
-pub mod IsFault

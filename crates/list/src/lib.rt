@@ -18,13 +18,13 @@ pub enum Datum {
 }
 
 // Pieces joined to one number, or the place of the first word that is none.
-enum Pieces {
+pub enum Pieces {
     Bits(u64),
     Bad(usize),
 }
 
 // A datum and the place behind it, or the place of the first word that is missing or wrong.
-enum DatumRead {
+pub enum DatumRead {
     Datum(Datum, usize),
     Bad(usize),
 }
@@ -36,7 +36,7 @@ pub enum Units {
 }
 
 // The value of a datum and the place behind it, or the number and the place of a refusal.
-enum Step {
+pub enum Step {
     Value(i32, usize),
     Refused(u32, usize),
 }

@@ -1,4 +1,3 @@
 pub mod Words
 pub mod Cases
 pub mod IsWord
-pub mod Breaks

@@ -8,10 +8,10 @@ use lib.Dec.{T}
 use lib.Ieee.{binary32, binary64, ofBits}
 use Rattle.words.specs.declared.Word.the-variants.{Head, Datum}
 use Rattle.words.specs.IsWord.{IsWord}
-use Rattle.words.specs.Breaks.{Sort, a-head, a-datum, a-piece, Lacks, Breaks}
+use Rattle.refusals.specs.Breaks.{Sort, a-head, a-datum, a-piece, Lacks, Breaks}
 use Rattle.whole.specs.Stands.{StandsFor}
 use Rattle.machine_data.specs.Table.{inRange}
 use Rattle.list.specs.IsList.{InPieces, Written, DataTo, DataFrom}
 
 -- "forms 0 (two's complement), 1, 2 with 2, 2, 4 pieces"
 pub data HasPieces : ℕ → ℕ → Type 0 where

@@ -17,23 +17,23 @@ use Rattle.words.proofs.Absurd.{never}
 use Rattle.words.specs.declared.Word.the-variants as W
 use Rattle.words.specs.Words.{wordAt}
 use Rattle.words.specs.IsWord.{IsWord}
-use Rattle.words.specs.Breaks.{a-head, fits}
+use Rattle.refusals.specs.Breaks.{a-head, fits}
 use Rattle.words.proofs.IsWord.{read-at}
-use Rattle.words.proofs.Breaks.{stands, lacks, lacked, held-head, other-head}
+use Rattle.refusals.proofs.Breaks.{stands, lacks, lacked, held-head, other-head}
 use Rattle.words.proofs.Front.{front-reads}
 use Rattle.machine_data.specs.Table.{inRange}
 use Rattle.list.specs.declared.ListRead.{ListRead}
 use Rattle.list.specs.declared.ListAnswer as A
 use Rattle.list.specs.declared.Step as S
 use Rattle.list.specs.Reading.{stepAt, acceptance, refusal, ends, onStep, gather, zeros, readList}
 use Rattle.list.specs.IsList.{DataTo, DataFrom, end, datum}
-use Rattle.list.specs.IsFault.{DatumFault, IsFault, no-head, se1, se2}
-use Rattle.list.specs.IsFault as F
+use Rattle.refusals.specs.IsFault.{DatumFault, IsFault, no-head, se1, se2}
+use Rattle.refusals.specs.IsFault as F
 use Rattle.list.proofs.Steps.{ended-by, after-head}
 use Rattle.list.proofs.Written.{Wrote, read-written}
-use Rattle.list.proofs.Faults.{step-fault, fault-step}
+use Rattle.refusals.proofs.Faults.{step-fault, fault-step}
 use Rattle.list.proofs.Passed.{behind, placeIn, how-many, place-here, passed, all-passed}
 use Rattle.list.proofs.Accepts.{not-le, lt-of-not-le}
 
 -- ---- data before a number and from it on
 

@@ -15,25 +15,25 @@ use Rattle.words.specs.Words.{wordAt, twos}
 use Rattle.words.specs.Cases.{ifPiece}
 use Rattle.words.specs.IsWord.{IsWord}
 use Rattle.words.specs.IsWord as I
-use Rattle.words.specs.Breaks.{a-piece, a-datum, fits, Lacks, Breaks, here, later}
-use Rattle.words.proofs.Breaks.{stands, stood, lacks, lacked, held-piece, other-piece, held-datum, other-datum}
+use Rattle.refusals.specs.Breaks.{a-piece, a-datum, fits, Lacks, Breaks, here, later}
+use Rattle.refusals.proofs.Breaks.{stands, stood, lacks, lacked, held-piece, other-piece, held-datum, other-datum}
 use Rattle.words.proofs.Front.{behind, front-reads}
 use Rattle.whole.specs.declared.Whole as H
 use Rattle.whole.specs.Whole.{wholeOf}
 use Rattle.whole.specs.Stands.{StandsFor}
 use Rattle.whole.proofs.Stands as whole-proofs
 use Rattle.machine_data.specs.Table.{inRange}
 use Rattle.list.specs.declared.Datum as D
 use Rattle.list.specs.declared.Pieces as P
 use Rattle.list.specs.declared.DatumRead as R
 use Rattle.list.specs.declared.Units as U
 use Rattle.list.specs.declared.Step as S
 use Rattle.list.specs.Datum.{piecesAt, onPieces, formAt, byForm, datumAt, ofWhole, unitsOf}
 use Rattle.list.specs.Reading.{stepAt, ofRead, ofUnits}
-use Rattle.list.specs.IsFault.{HasPieces, whole, single, double, pieces, DatumFault, no-datum, no-piece, is-open, no-single, no-double, beyond}
+use Rattle.refusals.specs.IsFault.{HasPieces, whole, single, double, pieces, DatumFault, no-datum, no-piece, is-open, no-single, no-double, beyond}
 use Rattle.list.proofs.Forms.{form-is, of-form}
 use Rattle.list.proofs.Steps.{step-bad, by-units}
 use Rattle.list.proofs.Written.{datum-word, form-reads, form-written, written-datum, datum-written}
 
 -- ---- pieces that break off
 

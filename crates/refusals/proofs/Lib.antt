@@ -1,0 +1,4 @@
+pub mod Breaks
+pub mod Faults
+pub mod Lists
+pub mod Kits

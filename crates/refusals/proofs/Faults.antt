@@ -15,8 +15,8 @@ use Rattle.words.specs.Words.{wordAt, twos}
 use Rattle.words.specs.Cases.{ifPiece}
 use Rattle.words.specs.IsWord.{IsWord}
 use Rattle.words.specs.IsWord as I
-use Rattle.refusals.specs.Breaks.{a-piece, a-datum, fits, Lacks, Breaks, here, later}
-use Rattle.refusals.proofs.Breaks.{stands, stood, lacks, lacked, held-piece, other-piece, held-datum, other-datum}
+use Rattle.words.specs.Breaks.{a-piece, a-datum, fits, Lacks, Breaks, here, later}
+use Rattle.words.proofs.Breaks.{stands, stood, lacks, lacked, held-piece, other-piece, held-datum, other-datum}
 use Rattle.words.proofs.Front.{behind, front-reads}
 use Rattle.whole.specs.declared.Whole as H
 use Rattle.whole.specs.Whole.{wholeOf}

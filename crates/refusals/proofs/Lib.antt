@@ -1,4 +1,3 @@
-pub mod Breaks
 pub mod Faults
 pub mod Lists
 pub mod Kits

@@ -17,9 +17,9 @@ use Rattle.words.proofs.Absurd.{never}
 use Rattle.words.specs.declared.Word.the-variants as W
 use Rattle.words.specs.Words.{wordAt}
 use Rattle.words.specs.IsWord.{IsWord}
-use Rattle.refusals.specs.Breaks.{a-head, fits}
+use Rattle.words.specs.Breaks.{a-head, fits}
 use Rattle.words.proofs.IsWord.{read-at}
-use Rattle.refusals.proofs.Breaks.{stands, lacks, lacked, held-head, other-head}
+use Rattle.words.proofs.Breaks.{stands, lacks, lacked, held-head, other-head}
 use Rattle.words.proofs.Front.{front-reads}
 use Rattle.machine_data.specs.Table.{inRange}
 use Rattle.list.specs.declared.ListRead.{ListRead}

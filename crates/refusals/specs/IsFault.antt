@@ -8,7 +8,7 @@ use lib.Dec.{T}
 use lib.Ieee.{binary32, binary64, ofBits}
 use Rattle.words.specs.declared.Word.the-variants.{Head, Datum}
 use Rattle.words.specs.IsWord.{IsWord}
-use Rattle.refusals.specs.Breaks.{Sort, a-head, a-datum, a-piece, Lacks, Breaks}
+use Rattle.words.specs.Breaks.{Sort, a-head, a-datum, a-piece, Lacks, Breaks}
 use Rattle.whole.specs.Stands.{StandsFor}
 use Rattle.machine_data.specs.Table.{inRange}
 use Rattle.list.specs.IsList.{InPieces, Written, DataTo, DataFrom}

@@ -1,3 +1,2 @@
-pub mod Breaks
 pub mod IsFault
 pub mod KitFault

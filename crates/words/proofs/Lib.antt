@@ -3,3 +3,4 @@ pub mod IsWord
 pub mod Cases
 pub mod Front
 pub mod Absurd
+pub mod Breaks

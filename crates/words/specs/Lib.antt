@@ -1,3 +1,4 @@
 pub mod Words
 pub mod Cases
 pub mod IsWord
+pub mod Breaks

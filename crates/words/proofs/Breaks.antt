@@ -5,14 +5,14 @@ use mathlib.Core.List.{List, _∷_}
 use Prim.Native.Nat.{ℕ, _+_, _<_}
 use lib.ListN.{length, getD, drop}
 use lib.Dec.{T, eqb, eqb→eq}
 use Rattle.words.specs.declared.Word.{Word}
 use Rattle.words.specs.declared.Word.the-variants.{Head, Datum, Piece, Position, Lower, Upper, End, Remark, Other}
 use Rattle.words.specs.Words.{wordAt}
 use Rattle.words.specs.Cases.{ifHead, ifDatum, ifPiece}
-use Rattle.refusals.specs.Breaks.{Sort, a-head, a-datum, a-piece, a-position, a-lower, an-upper, an-end, a-remark, fits, IsA, Lacks}
+use Rattle.words.specs.Breaks.{Sort, a-head, a-datum, a-piece, a-position, a-lower, an-upper, an-end, a-remark, fits, IsA, Lacks}
 use Rattle.words.proofs.IsWord.{read-at}
 use Rattle.words.proofs.Cases.{there}
 use Rattle.words.proofs.Front.{front-reads, front-is}
 
 -- no sort fits a word that no list and no log can hold
 never-other : (k : Sort) → T (fits k Other) → ⊥

@@ -3,3 +3,4 @@ pub mod Apart
 pub mod Going
 pub mod Answers
 pub mod Accepts
+pub mod Refuses

@@ -1,3 +1,4 @@
 pub mod Run
 pub mod Alone
 pub mod Ensures
+pub mod IsRefused

@@ -1,4 +1,6 @@
 pub mod Parts
 pub mod Scanning
+pub mod BadEntry
 pub mod Logs
 pub mod Seven
+pub mod Faults

@@ -1,30 +1,34 @@
 -- A log is read as these records if and only if it is them with remarks between: `logOf` against IsLog. Assumes nothing.
 use mathlib.Core.Path.{_≡_, refl, sym, ap, _∙_, subst}
 use mathlib.Core.Logic.{_↔_}
-use mathlib.Core.Bool.{Bool, true, false, cond}
-use mathlib.Core.List.{List, [], _∷_}
+use mathlib.Core.Bool.{Bool, true, false}
+use mathlib.Core.List.{List, [], _∷_, _++_, append-nil}
 use Prim.Native.Nat.{ℕ, zero, suc, _+_, _*_, _≤_, _<_}
 use native.Mathlib.Omega.{arith}
-use lib.ListN.{length, getD, drop, length-drop, drop-of-length-le}
-use lib.IntN.{ℤ}
+use lib.ListN.{length, getD, drop, drop-of-length-le}
 use lib.Dec.{ltb}
-use borrow.Author.Tests.{lt-ltb, le-ltb, ltb-true, ltb-false}
+use borrow.Author.Tests.{ltb-true, ltb-false}
 use Rattle.words.proofs.Absurd.{never}
 use Rattle.words.specs.declared.Word.{Word}
 use Rattle.words.specs.declared.Word.the-variants as W
 use Rattle.words.specs.Words.{wordAt}
+use Rattle.words.specs.IsWord.{IsWord}
 use Rattle.words.specs.Cases.{ifPosition}
+use Rattle.words.specs.Breaks.{a-remark, IsA, Breaks}
 use Rattle.words.proofs.IsWord.{read-at}
+use Rattle.words.proofs.Breaks.{lacks}
 use Rattle.words.proofs.Front.{present, behind, front-reads, front-is}
 use Rattle.words.proofs.Cases.{is-position, is-end}
 use Rattle.inputs.specs.declared.Reading.{Reading}
 use Rattle.records.specs.declared.CycleRecord.{CycleRecord}
 use Rattle.records.specs.declared.InputsRead as I
 use Rattle.records.specs.declared.Entry as E
-use Rattle.records.specs.Records.{inputsAt, onInputs, endingAt, otherAt, betweenOf, entryAt, LogRead, records, fault, before, onEntry, logFrom, logOf}
+use Rattle.records.specs.Records.{inputsAt, onInputs, endingAt, otherAt, betweenOf, entryAt, LogRead, records, fault, before, logOf}
 use Rattle.records.specs.IsLog.{IsReading, reading, IsLog, end, remark, cycle}
+use Rattle.records.specs.IsFault.{aRecord, FaultAt, fault-at}
 use Rattle.records.proofs.Parts.{both-halves, halves, ending-is, other-is, entry-is, remark-is}
-use Rattle.records.proofs.Scanning.{read, record-there}
+use Rattle.records.proofs.Scanning.{read, record-there, Rest, at-record, at-remark, at-bad, at-end}
+use Rattle.records.proofs.BadEntry.{record-bad, bad-no-remark}
 
 -- ---- what is written is read
 
@@ -41,31 +45,39 @@ reading-reads (reading {w₁ = w₁} {w₂} {w₃} h₁ h₂ h₃) s at t e =
       ap (λ (i : ℕ). drop i s) (sym far) ∙ e₄,
     )
 
-log-reads : {rs : List CycleRecord} {ws : List ℕ} → IsLog rs ws → (n : ℕ) (s : List ℕ) (at : ℕ) → drop at s ≡ ws → length s ≤ at + n → logFrom n s at ≡ records rs
-unfolding logFrom
-log-reads end zero s at e far = refl
-log-reads end (suc n) s at e far = simp (le-ltb at (length s) (omega (arith, sym (length-drop at s) ∙ ap length e)))
-log-reads (remark {w} {rs} {ws} h t) zero s at e far = absurd (omega (arith, present s at w ws e))
-log-reads (remark {w} {rs} {ws} h t) (suc n) s at e far =
-    simp (lt-ltb at (length s) (present s at w ws e))
-    (ap (λ (x : E.Entry). onEntry x (λ r. before r (logFrom n s (at + 7))) (logFrom n s (at + 1))) (sym (remark-is s at (front-reads s at w ws e h)))
-    ∙ log-reads t n s (at + 1) (behind s at w ws e) (omega arith))
-log-reads (cycle {a} {b} {ack} {w₁} {w₂} {w₃} {w₄} {w₅} {w₆} {w₇} {rs} {ws} ha hb hz t) zero s at e far = absurd (omega (arith, present s at w₁ (w₂ ∷ w₃ ∷ w₄ ∷ w₅ ∷ w₆ ∷ w₇ ∷ ws) e))
-log-reads (cycle {a} {b} {ack} {w₁} {w₂} {w₃} {w₄} {w₅} {w₆} {w₇} {rs} {ws} ha hb hz t) (suc n) s at e far =
-    let x = reading-reads ha s at (w₄ ∷ w₅ ∷ w₆ ∷ w₇ ∷ ws) e in
-    let y = reading-reads hb s (at + 3) (w₇ ∷ ws) (x .2) in
-    let z = front-reads s (at + 3 + 3) w₇ ws (y .2) hz in
+-- what is read of records, and of what is behind them
+abbrev pub ahead : List CycleRecord → LogRead → LogRead
+ahead [] l = l
+ahead (r ∷ rs) l = before r (ahead rs l)
+
+-- records and remarks at the front are read, and the rest is read from behind them on
+pub front-of-log : {rs : List CycleRecord} {front : List ℕ} → IsLog rs front → (s : List ℕ) (at to : ℕ) (t : List ℕ) → drop at s ≡ front ++ t → to ≡ at + length front →
+    (l : LogRead) → Rest s at l → (k : LogRead) × Rest s to k × (ahead rs k ≡ l)
+front-of-log end s at to t e far l rest = (l, subst (λ (i : ℕ). Rest s i l) (omega arith) rest, refl)
+front-of-log (remark {w} {ws = ws} h log) s at to t e far l rest =
+    let is : E.the-variants.Remark ≡ entryAt s at = remark-is s at (front-reads s at w (ws ++ t) e h) in
+    front-of-log log s (at + 1) to t (behind s at w (ws ++ t) e) (omega arith) l (at-remark s at l (present s at w (ws ++ t) e) (sym is) rest)
+front-of-log (cycle {a} {b} {ack} {w₁} {w₂} {w₃} {w₄} {w₅} {w₆} {w₇} {rs} {ws} ha hb hz log) s at to t e far l rest =
+    let x = reading-reads ha s at (w₄ ∷ w₅ ∷ w₆ ∷ w₇ ∷ (ws ++ t)) e in
+    let y = reading-reads hb s (at + 3) (w₇ ∷ (ws ++ t)) (x .2) in
+    let z = front-reads s (at + 3 + 3) w₇ (ws ++ t) (y .2) hz in
     let r : CycleRecord = record { a = a; b = b; acknowledged = ack } in
     let is : E.the-variants.Record r ≡ entryAt s at = ending-is s (at + 3 + 3) a b z ∙ other-is s (at + 3) a (y .0) (y .1) ∙ entry-is s at (x .0) (x .1) in
-    let far′ : at + 3 + 3 + 1 ≡ at + 7 = omega arith in
-    simp (lt-ltb at (length s) (present s at w₁ (w₂ ∷ w₃ ∷ w₄ ∷ w₅ ∷ w₆ ∷ w₇ ∷ ws) e))
-    (ap (λ (x : E.Entry). onEntry x (λ r. before r (logFrom n s (at + 7))) (logFrom n s (at + 1))) (sym is)
-    ∙ ap (before r) (log-reads t n s (at + 7) (ap (λ (i : ℕ). drop i s) (sym far′) ∙ behind s (at + 3 + 3) w₇ ws (y .2)) (omega arith)))
+    let seven : at + 3 + 3 + 1 ≡ at + 7 = omega arith in
+    let more = at-record s at l r (present s at w₁ (w₂ ∷ w₃ ∷ w₄ ∷ w₅ ∷ w₆ ∷ w₇ ∷ (ws ++ t)) e) (sym is) rest in
+    let last = front-of-log log s (at + 7) to t (ap (λ (i : ℕ). drop i s) (sym seven) ∙ behind s (at + 3 + 3) w₇ (ws ++ t) (y .2)) (omega arith) (more .0) (more .1) in
+    (last .0, last .1, ap (before r) (last .2) ∙ more .2)
+
+all-ahead : (rs : List CycleRecord) → ahead rs (records []) ≡ records rs
+all-ahead [] = refl
+all-ahead (r ∷ rs) = ap (before r) (all-ahead rs)
+
+log-reads : (s : List ℕ) (rs : List CycleRecord) → IsLog rs s → logOf s ≡ records rs
+log-reads s rs log =
+    let x = front-of-log log s 0 (length s) [] (sym (append-nil s)) (omega arith) (logOf s) (length s, omega arith, refl) in
+    sym (x .2) ∙ ap (ahead rs) (sym (at-end s (length s) (x .0) (omega arith) (x .1))) ∙ all-ahead rs
 
 -- ---- what is read was written
-
-not-other : {p : ℤ} → W.Position p ≡ W.Other → ⊥
-not-other e = never (cc)
 
 -- a reading at a place, and what stands behind it
 reading-written : (s : List ℕ) (at : ℕ) (r : Reading) → wordAt s at ≡ W.Position (r .position) → inputsAt s (at + 1) ≡ I.the-variants.Inputs (r .inputs) → at + 3 ≤ length s →
@@ -85,8 +97,11 @@ reading-written s at r p i far =
           ∙ ap (λ (j : ℕ). getD s at 0 ∷ getD s (at + 1) 0 ∷ getD s (at + 1 + 1) 0 ∷ drop j s) next,
     )
 
-record-written : (s : List ℕ) (at : ℕ) (r : CycleRecord) (rs : List CycleRecord) → entryAt s at ≡ E.the-variants.Record r → IsLog rs (drop (at + 7) s) → IsLog (r ∷ rs) (drop at s)
-record-written s at r rs e rest =
+-- what is shown of a record's seven words and all behind them holds where one is read
+pub record-written : (s : List ℕ) (at : ℕ) (r : CycleRecord) (P : List ℕ → Type 0) → entryAt s at ≡ E.the-variants.Record r
+    → ((w₁ w₂ w₃ w₄ w₅ w₆ w₇ : ℕ) → IsReading (r .a) w₁ w₂ w₃ → IsReading (r .b) w₄ w₅ w₆ → IsWord w₇ (W.End (r .acknowledged)) → P (w₁ ∷ w₂ ∷ w₃ ∷ w₄ ∷ w₅ ∷ w₆ ∷ w₇ ∷ drop (at + 7) s))
+    → P (drop at s)
+record-written s at r P e shown =
     let x = read s at r e in
     let far = record-there s at r e in
     let a = reading-written s at (r .a) (x .position-a) (x .inputs-a) (omega arith) in
@@ -95,7 +110,7 @@ record-written s at r rs e rest =
     let z = front-is s (at + 3 + 3) (omega arith) in
     let whole : drop at s ≡ a .0 ∷ a .1 ∷ a .2 ∷ b .0 ∷ b .1 ∷ b .2 ∷ getD s (at + 3 + 3) 0 ∷ drop (at + 7) s
     = a .4 ∙ ap (λ (t : List ℕ). a .0 ∷ a .1 ∷ a .2 ∷ t) (b .4 ∙ ap (λ (t : List ℕ). b .0 ∷ b .1 ∷ b .2 ∷ t) (z ∙ ap (λ (i : ℕ). getD s (at + 3 + 3) 0 ∷ drop i s) last)) in
-    subst (IsLog (r ∷ rs)) (sym whole) (cycle (a .3) (b .3) (read-at s (at + 3 + 3) (x .ending) (λ y. never (cc))) rest)
+    subst P (sym whole) (shown (a .0) (a .1) (a .2) (b .0) (b .1) (b .2) (getD s (at + 3 + 3) 0) (a .3) (b .3) (read-at s (at + 3 + 3) (x .ending) (λ y. never (cc))))
 
 onInputs-no-remark : (x : I.InputsRead) (f : ℕ → E.Entry) → ((w : ℕ) → f w ≡ E.the-variants.Remark → ⊥) → onInputs x f ≡ E.the-variants.Remark → ⊥
 onInputs-no-remark (I.the-variants.Inputs w) f h e = h w e
@@ -124,38 +139,70 @@ remark-at s at = go (wordAt s at) refl
     go W.Remark q e = refl
     go W.Other q e = never (cc)
 
-log-written : (n : ℕ) (s : List ℕ) (at : ℕ) (rs : List CycleRecord) → length s ≤ at + n → logFrom n s at ≡ records rs → IsLog rs (drop at s)
-unfolding logFrom
-log-written zero s at rs far e = subst (λ (l : List CycleRecord). IsLog l (drop at s)) (none e) (subst (IsLog []) (sym (drop-of-length-le s {i = at} (omega arith))) end)
-  where
-    none : records [] ≡ records rs → [] ≡ rs
-    none q = cc
-log-written (suc n) s at rs far e₀ = by-test (ltb at (length s)) refl
-    (λ r k e h. record-written s at r k e (log-written n s (at + 7) k (omega arith) h))
-    (λ k h. log-written n s (at + 1) k (omega arith) h)
-    e₀
-  where
-    by-entry : at < length s → (x : E.Entry) → entryAt s at ≡ x
-        → ((r : CycleRecord) (k : List CycleRecord) → entryAt s at ≡ E.the-variants.Record r → logFrom n s (at + 7) ≡ records k → IsLog (r ∷ k) (drop at s))
-        → ((k : List CycleRecord) → logFrom n s (at + 1) ≡ records k → IsLog k (drop (at + 1) s))
-        → onEntry x (λ r. before r (logFrom n s (at + 7))) (logFrom n s (at + 1)) ≡ records rs → IsLog rs (drop at s)
-    by-entry h (E.the-variants.Record r) q f g e = after (logFrom n s (at + 7)) refl e
-      where
-        after : (l : LogRead) → logFrom n s (at + 7) ≡ l → before r l ≡ records rs → IsLog rs (drop at s)
-        after (records k) i y = subst (λ (l : List CycleRecord). IsLog l (drop at s)) {x = r ∷ k} (cc) (f r k q i)
-        after (fault place) i y = never (cc)
-    by-entry h E.the-variants.Remark q f g e =
-        subst (IsLog rs) (sym (front-is s at h)) (remark (read-at s at (remark-at s at q) (λ y. never (cc))) (g rs e))
-    by-entry h (E.the-variants.Bad place) q f g e = never (cc)
+remark-word : (s : List ℕ) (at : ℕ) → entryAt s at ≡ E.the-variants.Remark → IsWord (getD s at 0) W.Remark
+remark-word s at e = read-at s at (remark-at s at e) (λ y. never (cc))
 
-    by-test : (t : Bool) → ltb at (length s) ≡ t
-        → ((r : CycleRecord) (k : List CycleRecord) → entryAt s at ≡ E.the-variants.Record r → logFrom n s (at + 7) ≡ records k → IsLog (r ∷ k) (drop at s))
-        → ((k : List CycleRecord) → logFrom n s (at + 1) ≡ records k → IsLog k (drop (at + 1) s))
-        → cond t (onEntry (entryAt s at) (λ r. before r (logFrom n s (at + 7))) (logFrom n s (at + 1))) (records []) ≡ records rs → IsLog rs (drop at s)
-    by-test true q f g e = by-entry (ltb-true at (length s) q) (entryAt s at) refl f g e
-    by-test false q f g e =
-        subst (λ (l : List CycleRecord). IsLog l (drop at s)) {x = []} (cc) (subst (IsLog []) (sym (drop-of-length-le s {i = at} (ltb-false at (length s) q))) end)
+-- ---- records or a fault
+
+-- the place said in another way
+fault-behind : {rs : List CycleRecord} {front ws : List ℕ} {w m : ℕ} (p : ℕ) → IsLog rs front → (IsA a-remark w → ⊥) → Breaks aRecord (w ∷ ws) m → length front + m ≡ p → FaultAt (front ++ (w ∷ ws)) p
+fault-behind {front = front} {ws} {w} p log none breaks e = subst (FaultAt (front ++ (w ∷ ws))) e (fault-at log none breaks)
+
+-- a remark or a record more in front
+behind-remark : {w p : ℕ} {ws : List ℕ} → IsWord w W.Remark → FaultAt ws p → FaultAt (w ∷ ws) (p + 1)
+behind-remark h (fault-at {front = front} {m = m} log none breaks) = fault-behind (length front + m + 1) (remark h log) none breaks (omega arith)
+
+behind-cycle : {a b : Reading} {ack : Bool} {w₁ w₂ w₃ w₄ w₅ w₆ w₇ p : ℕ} {ws : List ℕ} → IsReading a w₁ w₂ w₃ → IsReading b w₄ w₅ w₆ → IsWord w₇ (W.End ack) →
+    FaultAt ws p → FaultAt (w₁ ∷ w₂ ∷ w₃ ∷ w₄ ∷ w₅ ∷ w₆ ∷ w₇ ∷ ws) (p + 7)
+behind-cycle ha hb hz (fault-at {front = front} {m = m} log none breaks) = fault-behind (length front + m + 7) (cycle ha hb hz log) none breaks (omega arith)
+
+-- what was read from a place on stands there
+pub data Parted (s : List ℕ) (at : ℕ) : LogRead → Type 0 where
+  whole : {rs : List CycleRecord} → IsLog rs (drop at s) → Parted s at (records rs)
+  faulty : {place : ℕ} (p : ℕ) → place ≡ at + p → FaultAt (drop at s) p → Parted s at (fault place)
+
+module _ (s : List ℕ) (at : ℕ) where
+  parted-end : length s ≤ at → Parted s at (records [])
+  parted-end h = whole (subst (IsLog []) (sym (drop-of-length-le s {i = at} h)) end)
+
+  parted-bad : {place : ℕ} → at < length s → entryAt s at ≡ E.the-variants.Bad place → Parted s at (fault place)
+  parted-bad {place} inside e =
+      let q = bad-no-remark s at place e in
+      let x = record-bad s at q place .0 e in
+      let first = front-is s at inside in
+      faulty (x .0) (x .1)
+      (subst (λ (ws : List ℕ). FaultAt ws (x .0)) (sym first)
+      (fault-behind (x .0) end (lacks a-remark s at q (getD s at 0) (drop (at + 1) s) first) (subst (λ (ws : List ℕ). Breaks aRecord ws (x .0)) first (x .2)) (omega arith)))
+
+  parted-remark : {l : LogRead} → at < length s → entryAt s at ≡ E.the-variants.Remark → Parted s (at + 1) l → Parted s at l
+  parted-remark inside e (whole {rs} log) = whole (subst (IsLog rs) (sym (front-is s at inside)) (remark (remark-word s at e) log))
+  parted-remark inside e (faulty {place} p q f) =
+      faulty {place = place} (p + 1) (omega arith) (subst (λ (ws : List ℕ). FaultAt ws (p + 1)) (sym (front-is s at inside)) (behind-remark (remark-word s at e) f))
+
+  parted-record : (r : CycleRecord) {l : LogRead} → entryAt s at ≡ E.the-variants.Record r → Parted s (at + 7) l → Parted s at (before r l)
+  parted-record r e (whole {rs} log) = whole (record-written s at r (IsLog (r ∷ rs)) e (λ w₁ w₂ w₃ w₄ w₅ w₆ w₇ a b z. cycle a b z log))
+  parted-record r e (faulty {place} p q f) =
+      faulty {place = place} (p + 7) (omega arith) (record-written s at r (λ (ws : List ℕ). FaultAt ws (p + 7)) e (λ w₁ w₂ w₃ w₄ w₅ w₆ w₇ a b z. behind-cycle a b z f))
+
+  -- by the entry that stands first, with what is read behind it
+  by-entry : (l : LogRead) → at < length s → Rest s at l → ((to : ℕ) (k : LogRead) → at < to → Rest s to k → Parted s to k) → (x : E.Entry) → entryAt s at ≡ x → Parted s at l
+  by-entry l inside rest more (E.the-variants.Record r) e =
+      let x = at-record s at l r inside e rest in
+      subst (Parted s at) (x .2) (parted-record r e (more (at + 7) (x .0) (omega arith) (x .1)))
+  by-entry l inside rest more E.the-variants.Remark e = parted-remark inside e (more (at + 1) l (omega arith) (at-remark s at l inside e rest))
+  by-entry l inside rest more (E.the-variants.Bad place) e = subst (Parted s at) (at-bad s at l inside e rest) (parted-bad inside e)
+
+pub parted : (n : ℕ) (s : List ℕ) (at : ℕ) (l : LogRead) → length s ≤ at + n → Rest s at l → Parted s at l
+parted zero s at l far rest = subst (Parted s at) (at-end s at l (omega arith) rest) (parted-end s at (omega arith))
+parted (suc n) s at l far rest = by-length (ltb at (length s)) refl (λ to k h. parted n s to k (omega arith))
+  where
+    by-length : (t : Bool) → ltb at (length s) ≡ t → ((to : ℕ) (k : LogRead) → at < to → Rest s to k → Parted s to k) → Parted s at l
+    by-length true q more = by-entry s at l (ltb-true at (length s) q) rest more (entryAt s at) refl
+    by-length false q more = let h = ltb-false at (length s) q in subst (Parted s at) (at-end s at l h rest) (parted-end s at h)
 
 -- "A log is cycle records", and remarks between them
 pub is-log : (s : List ℕ) (rs : List CycleRecord) → (logOf s ≡ records rs) ↔ IsLog rs s
-is-log s rs = (λ e. log-written (length s) s 0 rs (omega arith) e, λ h. log-reads h (length s) s 0 refl (omega arith))
+is-log s rs = (λ e. written (parted (length s) s 0 (records rs) (omega arith) (length s, omega arith, e)), log-reads s rs)
+  where
+    written : Parted s 0 (records rs) → IsLog rs s
+    written (whole log) = log

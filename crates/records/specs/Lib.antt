@@ -1,3 +1,4 @@
 pub mod Records
 pub mod IsLog
 pub mod Seven
+pub mod IsFault

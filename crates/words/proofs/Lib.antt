@@ -4,3 +4,4 @@ pub mod Cases
 pub mod Front
 pub mod Absurd
 pub mod Breaks
+pub mod Breaking

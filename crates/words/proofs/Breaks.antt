@@ -51,67 +51,19 @@ module _ (k : Sort) (s : List ℕ) (at : ℕ) where
 -- ---- a word by whether it fits: what it holds, or what stands for any other
 
 pub held-head : (x : Word) → T (fits a-head x) → x ≡ Head
-held-head Head t = refl
-held-head (Datum k f) t = absurd t
-held-head (Piece b) t = absurd t
-held-head (Position z) t = absurd t
-held-head (Lower b) t = absurd t
-held-head (Upper b) t = absurd t
-held-head (End a) t = absurd t
-held-head Remark t = absurd t
-held-head Other t = absurd t
+held-head x = elim x [ Head ↦ (λ t. refl) | Datum k f ↦ (λ t. absurd t) | Piece b ↦ (λ t. absurd t) | Position z ↦ (λ t. absurd t) | Lower b ↦ (λ t. absurd t) | Upper b ↦ (λ t. absurd t) | End a ↦ (λ t. absurd t) | Remark ↦ (λ t. absurd t) | Other ↦ (λ t. absurd t) ]
 
 pub other-head : {A : Type 0} (x : Word) (held : A) (other : A) → fits a-head x ≡ false → ifHead x held other ≡ other
-other-head Head held other q = absurd (true≢false q)
-other-head (Datum k f) held other q = refl
-other-head (Piece b) held other q = refl
-other-head (Position z) held other q = refl
-other-head (Lower b) held other q = refl
-other-head (Upper b) held other q = refl
-other-head (End a) held other q = refl
-other-head Remark held other q = refl
-other-head Other held other q = refl
+other-head x held other = elim x [ Head ↦ (λ q. absurd (true≢false q)) | Datum k f ↦ (λ q. refl) | Piece b ↦ (λ q. refl) | Position z ↦ (λ q. refl) | Lower b ↦ (λ q. refl) | Upper b ↦ (λ q. refl) | End a ↦ (λ q. refl) | Remark ↦ (λ q. refl) | Other ↦ (λ q. refl) ]
 
 pub held-piece : (x : Word) → T (fits a-piece x) → (b : ℕ) × (x ≡ Piece b)
-held-piece Head t = absurd t
-held-piece (Datum k f) t = absurd t
-held-piece (Piece b) t = (b, refl)
-held-piece (Position z) t = absurd t
-held-piece (Lower b) t = absurd t
-held-piece (Upper b) t = absurd t
-held-piece (End a) t = absurd t
-held-piece Remark t = absurd t
-held-piece Other t = absurd t
+held-piece x = elim x [ Head ↦ (λ t. absurd t) | Datum k f ↦ (λ t. absurd t) | Piece b ↦ (λ t. (b, refl)) | Position z ↦ (λ t. absurd t) | Lower b ↦ (λ t. absurd t) | Upper b ↦ (λ t. absurd t) | End a ↦ (λ t. absurd t) | Remark ↦ (λ t. absurd t) | Other ↦ (λ t. absurd t) ]
 
 pub other-piece : {A : Type 0} (x : Word) (held : ℕ → A) (other : A) → fits a-piece x ≡ false → ifPiece x held other ≡ other
-other-piece Head held other q = refl
-other-piece (Datum k f) held other q = refl
-other-piece (Piece b) held other q = absurd (true≢false q)
-other-piece (Position z) held other q = refl
-other-piece (Lower b) held other q = refl
-other-piece (Upper b) held other q = refl
-other-piece (End a) held other q = refl
-other-piece Remark held other q = refl
-other-piece Other held other q = refl
+other-piece x held other = elim x [ Head ↦ (λ q. refl) | Datum k f ↦ (λ q. refl) | Piece b ↦ (λ q. absurd (true≢false q)) | Position z ↦ (λ q. refl) | Lower b ↦ (λ q. refl) | Upper b ↦ (λ q. refl) | End a ↦ (λ q. refl) | Remark ↦ (λ q. refl) | Other ↦ (λ q. refl) ]
 
 pub held-datum : (n : ℕ) (x : Word) → T (fits (a-datum n) x) → (f : ℕ) × (x ≡ Datum n f)
-held-datum n Head t = absurd t
-held-datum n (Datum k f) t = (f, ap (λ (i : ℕ). Datum i f) (eqb→eq k n t))
-held-datum n (Piece b) t = absurd t
-held-datum n (Position z) t = absurd t
-held-datum n (Lower b) t = absurd t
-held-datum n (Upper b) t = absurd t
-held-datum n (End a) t = absurd t
-held-datum n Remark t = absurd t
-held-datum n Other t = absurd t
+held-datum n x = elim x [ Head ↦ (λ t. absurd t) | Datum k f ↦ (λ t. (f, ap (λ (i : ℕ). Datum i f) (eqb→eq k n t))) | Piece b ↦ (λ t. absurd t) | Position z ↦ (λ t. absurd t) | Lower b ↦ (λ t. absurd t) | Upper b ↦ (λ t. absurd t) | End a ↦ (λ t. absurd t) | Remark ↦ (λ t. absurd t) | Other ↦ (λ t. absurd t) ]
 
 pub other-datum : {A : Type 0} (n : ℕ) (x : Word) (held : ℕ → A) (other : A) → fits (a-datum n) x ≡ false → ifDatum x (λ k f. cond (eqb k n) (held f) other) other ≡ other
-other-datum n Head held other q = refl
-other-datum n (Datum k f) held other q = ap (λ (t : Bool). cond t (held f) other) q
-other-datum n (Piece b) held other q = refl
-other-datum n (Position z) held other q = refl
-other-datum n (Lower b) held other q = refl
-other-datum n (Upper b) held other q = refl
-other-datum n (End a) held other q = refl
-other-datum n Remark held other q = refl
-other-datum n Other held other q = refl
+other-datum n x held other = elim x [ Head ↦ (λ q. refl) | Datum k f ↦ (λ q. ap (λ (t : Bool). cond t (held f) other) q) | Piece b ↦ (λ q. refl) | Position z ↦ (λ q. refl) | Lower b ↦ (λ q. refl) | Upper b ↦ (λ q. refl) | End a ↦ (λ q. refl) | Remark ↦ (λ q. refl) | Other ↦ (λ q. refl) ]

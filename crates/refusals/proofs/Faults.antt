@@ -204,24 +204,28 @@ module _ (s : List ℕ) (k at : ℕ) where
 
 -- ---- what is faulty is refused
 
+-- numbers 2 to 4, and 1 where the datum's word is missing, have the place of that word
+at-its-word : (n at : ℕ) → S.the-variants.Refused n at ≡ S.the-variants.Refused n (at + 0)
+at-its-word n at = ap (S.the-variants.Refused n) {x = at} {y = at + 0} (omega arith)
+
 pub fault-step : {k n m : ℕ} {ws : List ℕ} → DatumFault k ws n m → (s : List ℕ) (at : ℕ) → drop at s ≡ ws → stepAt s k at ≡ S.the-variants.Refused n (at + m)
 unfolding unitsOf
 fault-step {k} (no-datum none) s at e =
     let q = lacked (a-datum k) s at (subst (Lacks (a-datum k)) (sym e) none) in
-    sym (step-bad s k at (no-word s k at q)) ∙ ap (S.the-variants.Refused 1) {x = at} {y = at + 0} (omega arith)
+    sym (step-bad s k at (no-word s k at q)) ∙ at-its-word 1 at
 fault-step {k} (no-piece {w} {f} {n} {m} {ws} h hp b) s at e =
     let bad = form-bad hp s (at + 1) (broken-pieces n b s (at + 1) (behind s at w ws e) 0) in
     sym (step-bad s k at (sym (of-form s k at (front-reads s at w ws e h) refl refl) ∙ bad)) ∙ ap (S.the-variants.Refused 1) {x = at + 1 + m} {y = at + suc m} (omega arith)
 fault-step {k} (is-open {w} {ws} h) s at e =
-    sym (by-units s k at (sym (of-form s k at (front-reads s at w ws e h) refl refl)) refl) ∙ ap (S.the-variants.Refused 2) {x = at} {y = at + 0} (omega arith)
+    sym (by-units s k at (sym (of-form s k at (front-reads s at w ws e h) refl refl)) refl) ∙ at-its-word 2 at
 fault-step {k} (no-single {w} {b} {ps} ws h p none) s at e =
     sym (by-units s k at (form-reads s k at 1 2 (λ b. D.the-variants.Single (ofBits binary32 b)) (λ j. refl) ws h p e) (ap ofWhole (none-whole (ofBits binary32 b) none)))
-    ∙ ap (S.the-variants.Refused 3) {x = at} {y = at + 0} (omega arith)
+    ∙ at-its-word 3 at
 fault-step {k} (no-double {w} {b} {ps} ws h p none) s at e =
     sym (by-units s k at (form-reads s k at 2 4 (λ b. D.the-variants.Double (ofBits binary64 b)) (λ j. refl) ws h p e) (ap ofWhole (none-whole (ofBits binary64 b) none)))
-    ∙ ap (S.the-variants.Refused 3) {x = at} {y = at + 0} (omega arith)
+    ∙ at-its-word 3 at
 fault-step {k} (beyond {z} {w} ws h out) s at e =
     let d = written-datum h s at ws e in
     let q : inRange k z ≡ false = not-so (inRange k z) out in
     sym (by-units s k at (d .1) (d .2)) ∙ ap (λ (t : Bool). cond t (S.the-variants.Value z (at + length w)) (S.the-variants.Refused 4 at)) q
-    ∙ ap (S.the-variants.Refused 4) {x = at} {y = at + 0} (omega arith)
+    ∙ at-its-word 4 at

@@ -37,18 +37,20 @@ use Rattle.list.proofs.Accepts.{not-le, lt-of-not-le}
 
 -- ---- data before a number and from it on
 
+-- a place, and the same with nothing behind it
+here : (at : ℕ) → at ≡ at + 0
+here at = omega arith
+
+-- the place behind two runs of words
+further : (at : ℕ) (w b : List ℕ) → at + length w + length b ≡ at + length (w ++ b)
+further at w b = omega (arith, length-append w b)
+
 joined : {j k l : ℕ} {vs vs′ : List ℤ} {ws ws′ : List ℕ} → DataTo j k vs ws → DataTo l j vs′ ws′ → j < l →
     (w : List ℕ) × (w ≡ ws ++ ws′) × (x : DataTo l k (vs ++ vs′) w) × ((at d : ℕ) → placeIn x j at d ≡ at + length ws)
-joined {ws′ = ws′} end y h = (ws′, refl, y, λ at d. place-here y at d h ∙ none at)
-  where
-    none : (n : ℕ) → n ≡ n + 0
-    none n = omega arith
+joined {ws′ = ws′} end y h = (ws′, refl, y, λ at d. place-here y at d h ∙ here at)
 joined {j} {ws′ = ws′} (datum {k} {w = w} {ws} g r x) y h =
     let t = joined x y h in
-    (w ++ t .0, ap (λ (l : List ℕ). w ++ l) (t .1) ∙ sym (append-assoc w ws ws′), datum g r (t .2), λ at d. t .3 (at + length w) (cond (eqb k j) at d) ∙ far at)
-  where
-    far : (at : ℕ) → at + length w + length ws ≡ at + length (w ++ ws)
-    far at = omega (arith, length-append w ws)
+    (w ++ t .0, ap (λ (l : List ℕ). w ++ l) (t .1) ∙ sym (append-assoc w ws ws′), datum g r (t .2), λ at d. t .3 (at + length w) (cond (eqb k j) at d) ∙ further at w ws)
 
 record Parts (j : ℕ) {l k : ℕ} {vs : List ℤ} {ws : List ℕ} (x : DataTo l k vs ws) : Type 0 where
   pub early : List ℤ
@@ -79,11 +81,8 @@ split j {l} (datum {k} {z} {vs} {w} {ws} h r x) low high = go (eqb k j) refl (λ
               second = datum h r x;
               values = refl;
               words = refl;
-              place = λ at d. place-here {j = l} (datum h r x) at d b ∙ none at;
+              place = λ at d. place-here {j = l} (datum h r x) at d b ∙ here at;
             }
-          where
-            none : (n : ℕ) → n ≡ n + 0
-            none n = omega arith
     go false q rest =
         let t = rest (omega (arith, low, eqb-false k j q)) high in
         record {
@@ -95,11 +94,8 @@ split j {l} (datum {k} {z} {vs} {w} {ws} h r x) low high = go (eqb k j) refl (λ
           second = t .second;
           values = ap (λ (l : List ℤ). z ∷ l) (t .values);
           words = ap (λ (l : List ℕ). w ++ l) (t .words) ∙ sym (append-assoc w (t .before) (t .from));
-          place = λ at d. t .place (at + length w) (cond (eqb k j) at d) ∙ far at (t .before);
+          place = λ at d. t .place (at + length w) (cond (eqb k j) at d) ∙ further at w (t .before);
         }
-      where
-        far : (at : ℕ) (b : List ℕ) → at + length w + length b ≡ at + length (w ++ b)
-        far at b = omega (arith, length-append w b)
 
 -- ---- what is faulty is refused
 

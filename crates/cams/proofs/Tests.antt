@@ -14,7 +14,7 @@ use Rattle.distance.proofs.Laws.{mag-sub}
 use Rattle.machine_data.specs.Data.{datumOf}
 use Rattle.cams.specs.Cams.{camOf}
 
--- a number of 32 bits in 64, and the sum of two, as the machine has them
+-- a number of 32 bits in 64, and the sum of two, as the values has them
 abbrev wide : ℤ → ℤ
 wide z = toZ w64 (ofZ w64 (toZ w32 (ofZ w32 z)))
 

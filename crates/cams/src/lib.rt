@@ -2,13 +2,14 @@
 ghost use mathlib.Core.Path.{_≡_};
 ghost use Rattle.cams.specs.Cams.{camOf, camsUpTo, camsNext};
 use inputs::Reading;
+use machine_data::Values;
 
 // The signal of cam n, in data order: 1 above the edge and its tolerance, 0 below the edge, else as before.
-fn cam(machine: &[i32; 51], reading: Reading, n: usize, before: bool) -> bool
-    ensures { λ r. ⌜ r ≡ camOf (now (machine .entry)) (reading .position) n before ⌝ }
+fn cam(values: &Values, reading: Reading, n: usize, before: bool) -> bool
+    ensures { λ r. ⌜ r ≡ camOf (now (values .entry)) (reading .position) n before ⌝ }
 {
-    let edge = machine_data::cam_edge(machine, n) as i64;
-    let tolerance = machine_data::datum(machine, 24) as i64;
+    let edge = machine_data::cam_edge(values, n) as i64;
+    let tolerance = machine_data::datum(values, 24) as i64;
     let position = reading.position as i64;
     if edge + tolerance < position {
         return true;
@@ -20,13 +21,13 @@ fn cam(machine: &[i32; 51], reading: Reading, n: usize, before: bool) -> bool
 }
 
 // The eight signals as the bits of a number, the first lowest.
-pub fn next(machine: &[i32; 51], reading: Reading, before: u8) -> u8
-    ensures { λ r. ⌜ r ≡ camsNext (now (machine .entry)) (reading .position) before ⌝ }
+pub fn next(values: &Values, reading: Reading, before: u8) -> u8
+    ensures { λ r. ⌜ r ≡ camsNext (now (values .entry)) (reading .position) before ⌝ }
 {
     let mut signals = 0u32;
     let mut n = 0u32;
     while n < 8 {
-        if cam(machine, reading, n as usize, bits::bit(before as u32, n)) {
+        if cam(values, reading, n as usize, bits::bit(before as u32, n)) {
             signals += 1 << n;
         }
         n += 1;

@@ -41,7 +41,7 @@ freshState =
     }
 
 abbrev pub freshChannel : MachineData → Channel
-freshChannel m = record { machine = m; state = freshState }
+freshChannel m = record { list = m; state = freshState }
 
 -- "A channel's report in a cycle is that cycle's position and whole input word and its datum k"
 abbrev pub reportOf : List ℤ → ℕ → Reading → Report

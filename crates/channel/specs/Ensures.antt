@@ -25,6 +25,6 @@ pub record StepEnsures (d : List ℤ) (s : State) (g : Given) (r : Outcome) : Ty
 
 -- the same of a channel, which keeps its data
 pub record CycleEnsures (c : Channel) (g : Given) (r : ChannelOutcome) : Type 0 where
-  pub channel : r .channel ≡ record { machine = c .machine; state = next (c .machine .values) (c .state) g }
-  pub word-is : r .word ≡ word (c .machine .values) (c .state) g
-  pub causes : Lists (rowsOf (c .machine .values) (c .state) g) (r .causes)
+  pub channel : r .channel ≡ record { list = c .list; state = next (c .list .values) (c .state) g }
+  pub word-is : r .word ≡ word (c .list .values) (c .state) g
+  pub causes : Lists (rowsOf (c .list .values) (c .state) g) (r .causes)

@@ -12,6 +12,7 @@ use comparison::Fault;
 use inputs::Reading;
 use inputs::Report;
 use machine_data::MachineData;
+use machine_data::Values;
 use selection::Choice;
 use selection::Selection;
 use stop::Rank;
@@ -38,7 +39,7 @@ pub struct State {
 }
 
 pub struct Channel {
-    pub machine: MachineData,
+    pub list: MachineData,
     pub state: State,
 }
 
@@ -101,7 +102,7 @@ fn any_of(a: bool, b: bool, c: bool) -> bool
 
 // What stands in a usable cycle: the limits by what is effective, and what the comparison found.
 fn found(
-    machine: &[i32; 51],
+    values: &Values,
     stop: Stop,
     reading: Reading,
     choice: Choice,
@@ -111,30 +112,30 @@ fn found(
     datum: bool,
     expired: bool,
 ) -> Found
-    ensures { λ r. ⌜ r ≡ foundBy (now (machine .entry)) stop reading choice moved position inputs datum expired ⌝ }
+    ensures { λ r. ⌜ r ≡ foundBy (now (values .entry)) stop reading choice moved position inputs datum expired ⌝ }
 {
     let effective = choice.effective;
     Found {
-        standstill: limits::standstill(machine, choice, reading),
-        speeding: limits::over_speed(machine, effective, moved),
-        outside: limits::outside(machine, reading),
-        a: limits::external(machine, reading, 18),
-        c: limits::external(machine, reading, 19),
-        d: limits::external(machine, reading, 20),
-        e: limits::external(machine, reading, 21),
-        slipped: limits::slipped(machine, stop, reading),
+        standstill: limits::standstill(values, choice, reading),
+        speeding: limits::over_speed(values, effective, moved),
+        outside: limits::outside(values, reading),
+        a: limits::external(values, reading, 18),
+        c: limits::external(values, reading, 19),
+        d: limits::external(values, reading, 20),
+        e: limits::external(values, reading, 21),
+        slipped: limits::slipped(values, stop, reading),
         position,
         inputs,
         datum,
         expired,
-        sg: limits::sg_rank(machine, effective),
-        se: Rank::from_number(machine_data::number(machine, 15)),
+        sg: limits::sg_rank(values, effective),
+        se: Rank::from_number(machine_data::number(values, 15)),
     }
 }
 
 // Steps 2 to 4.
-fn judge(machine: &[i32; 51], state: State, given: Given) -> Judged
-    ensures { λ r. ⌜ r ≡ judgedOf (now (machine .entry)) state given ⌝ }
+fn judge(values: &Values, state: State, given: Given) -> Judged
+    ensures { λ r. ⌜ r ≡ judgedOf (now (values .entry)) state given ⌝ }
 {
     let reading = given.reading;
     let report = given.report;
@@ -143,18 +144,14 @@ fn judge(machine: &[i32; 51], state: State, given: Given) -> Judged
     let stop = state.stop;
     let fault = state.fault;
     let moved = moved(previous, reading);
-    let choice = before.next(
-        machine,
-        selection::selected(machine, reading.inputs),
-        reading,
-    );
-    let position = comparison::position_differs(machine, reading, report);
+    let choice = before.next(values, selection::selected(values, reading.inputs), reading);
+    let position = comparison::position_differs(values, reading, report);
     let differing = comparison::run(state.differing, reading, report);
-    let inputs = comparison::inputs_differ(machine, differing);
-    let datum = comparison::datum_differs(machine, state.k as usize, report);
-    let after = fault.next(machine, any_of(position, inputs, datum));
+    let inputs = comparison::inputs_differ(values, differing);
+    let datum = comparison::datum_differs(values, state.k as usize, report);
+    let after = fault.next(values, any_of(position, inputs, datum));
     let found = found(
-        machine,
+        values,
         stop,
         reading,
         choice,
@@ -197,8 +194,8 @@ fn cleared(clears: bool, fault: Fault) -> Fault
 }
 
 // Steps 5 and 6.
-fn stepped(machine: &[i32; 51], state: State, given: Given, judged: Judged) -> State
-    ensures { λ r. ⌜ r ≡ steppedOf (now (machine .entry)) state given judged ⌝ }
+fn stepped(values: &Values, state: State, given: Given, judged: Judged) -> State
+    ensures { λ r. ⌜ r ≡ steppedOf (now (values .entry)) state given judged ⌝ }
 {
     let reading = given.reading;
     let found = judged.found;
@@ -208,8 +205,8 @@ fn stepped(machine: &[i32; 51], state: State, given: Given, judged: Judged) -> S
     let fault = judged.fault;
     let choice = judged.choice;
     let clears = clears(given.acknowledged, tally.fresh);
-    let slow = speed::below(machine, judged.moved, 33);
-    let after = stop.next(machine, clears, strongest, slow, reading);
+    let slow = speed::below(values, judged.moved, 33);
+    let after = stop.next(values, clears, strongest, slow, reading);
     State {
         k: next_k(state.k),
         previous: Previous::At(reading.position),
@@ -217,7 +214,7 @@ fn stepped(machine: &[i32; 51], state: State, given: Given, judged: Judged) -> S
         differing: judged.differing,
         fault: cleared(clears, fault),
         stop: after,
-        cams: cams::next(machine, reading, state.cams),
+        cams: cams::next(values, reading, state.cams),
     }
 }
 
@@ -239,44 +236,44 @@ fn unusable(state: State) -> State
 }
 
 // The channel word of a state.
-fn word(machine: &[i32; 51], state: State, slow: bool) -> u32
-    ensures { λ r. ⌜ r ≡ wordOf (now (machine .entry)) state slow ⌝ }
+fn word(values: &Values, state: State, slow: bool) -> u32
+    ensures { λ r. ⌜ r ≡ wordOf (now (values .entry)) state slow ⌝ }
 {
     let choice = state.choice;
     let effective = choice.effective;
     let stop = state.stop;
     let fault = state.fault;
-    channel_word::channel_word(machine, effective, stop, fault.on, state.cams, slow)
+    channel_word::channel_word(values, effective, stop, fault.on, state.cams, slow)
 }
 
 // A cycle of a state beside its data, without its causes: what a log needs.
-pub fn advance(machine: &[i32; 51], state: State, given: Given) -> Advanced
-    ensures { λ r. ⌜ AdvanceEnsures (now (machine .entry)) state given r ⌝ }
+pub fn advance(values: &Values, state: State, given: Given) -> Advanced
+    ensures { λ r. ⌜ AdvanceEnsures (now (values .entry)) state given r ⌝ }
 {
     let reading = given.reading;
     if inputs::usable(reading) {
-        let judged = judge(machine, state, given);
-        let after = stepped(machine, state, given, judged);
+        let judged = judge(values, state, given);
+        let after = stepped(values, state, given, judged);
         Advanced {
             state: after,
-            word: word(machine, after, speed::below(machine, judged.moved, 25)),
+            word: word(values, after, speed::below(values, judged.moved, 25)),
         }
     } else {
         let after = unusable(state);
         Advanced {
             state: after,
-            word: word(machine, after, false),
+            word: word(values, after, false),
         }
     }
 }
 
 // The codes of the causes that stand in a cycle.
-fn causes(machine: &[i32; 51], state: State, given: Given) -> Causes
-    ensures { λ r. ⌜ Lists (rowsOf (now (machine .entry)) state given) r ⌝ }
+fn causes(values: &Values, state: State, given: Given) -> Causes
+    ensures { λ r. ⌜ Lists (rowsOf (now (values .entry)) state given) r ⌝ }
 {
     let reading = given.reading;
     if inputs::usable(reading) {
-        let judged = judge(machine, state, given);
+        let judged = judge(values, state, given);
         let found = judged.found;
         found.causes()
     } else {
@@ -285,24 +282,24 @@ fn causes(machine: &[i32; 51], state: State, given: Given) -> Causes
 }
 
 // A cycle of a state beside its data.
-pub fn step(machine: &[i32; 51], state: State, given: Given) -> Outcome
-    ensures { λ r. ⌜ StepEnsures (now (machine .entry)) state given r ⌝ }
+pub fn step(values: &Values, state: State, given: Given) -> Outcome
+    ensures { λ r. ⌜ StepEnsures (now (values .entry)) state given r ⌝ }
 {
-    let advanced = advance(machine, state, given);
+    let advanced = advance(values, state, given);
     let after = advanced.state;
     Outcome {
         state: after,
         word: advanced.word,
-        causes: causes(machine, state, given),
+        causes: causes(values, state, given),
     }
 }
 
 // A fresh channel with the data of a list.
-pub fn fresh(machine: MachineData) -> Channel
-    ensures { λ r. ⌜ r ≡ freshChannel machine ⌝ }
+pub fn fresh(list: MachineData) -> Channel
+    ensures { λ r. ⌜ r ≡ freshChannel list ⌝ }
 {
     Channel {
-        machine,
+        list,
         state: State {
             k: 0,
             previous: Previous::Nowhere,
@@ -321,13 +318,13 @@ pub fn fresh(machine: MachineData) -> Channel
 }
 
 // What a channel reports of a cycle, with its k from before it.
-pub fn report(machine: &[i32; 51], k: u8, reading: Reading) -> Report
-    ensures { λ r. ⌜ r ≡ reportOf (now (machine .entry)) k reading ⌝ }
+pub fn report(values: &Values, k: u8, reading: Reading) -> Report
+    ensures { λ r. ⌜ r ≡ reportOf (now (values .entry)) k reading ⌝ }
 {
     Report {
         position: reading.position,
         inputs: reading.inputs,
-        datum: machine_data::entry(machine, k as usize),
+        datum: machine_data::entry(values, k as usize),
     }
 }
 
@@ -335,16 +332,13 @@ pub fn report(machine: &[i32; 51], k: u8, reading: Reading) -> Report
 pub fn cycle(channel: Channel, given: Given) -> ChannelOutcome
     ensures { λ r. ⌜ CycleEnsures channel given r ⌝ }
 {
-    let machine = channel.machine;
+    let list = channel.list;
     let state = channel.state;
-    let outcome = step(&machine.values, state, given);
+    let outcome = step(&list.values, state, given);
     let after = outcome.state;
     let causes = outcome.causes;
     ChannelOutcome {
-        channel: Channel {
-            machine,
-            state: after,
-        },
+        channel: Channel { list, state: after },
         word: outcome.word,
         causes,
     }

@@ -2,6 +2,7 @@
 ghost use mathlib.Core.Path.{_≡_};
 ghost use Rattle.bits.specs.Bits.{flag};
 ghost use Rattle.channel_word.specs.Word.{isEffective, shownSg, isHeld, shownCams, shownSlow, placed, Parts, wordBy};
+use machine_data::Values;
 use selection::Selection;
 use stop::Stop;
 
@@ -43,10 +44,10 @@ fn is_held(s: Stop) -> bool
 }
 
 // The cams, while their function is on.
-fn shown_cams(machine: &[i32; 51], cams: u8) -> u8
-    ensures { λ r. ⌜ r ≡ shownCams (now (machine .entry)) cams ⌝ }
+fn shown_cams(values: &Values, cams: u8) -> u8
+    ensures { λ r. ⌜ r ≡ shownCams (now (values .entry)) cams ⌝ }
 {
-    if machine_data::function(machine, 2) {
+    if machine_data::function(values, 2) {
         cams
     } else {
         0
@@ -54,10 +55,10 @@ fn shown_cams(machine: &[i32; 51], cams: u8) -> u8
 }
 
 // n<nx, while its function is on.
-fn shown_slow(machine: &[i32; 51], slow: bool) -> bool
-    ensures { λ r. ⌜ r ≡ shownSlow (now (machine .entry)) slow ⌝ }
+fn shown_slow(values: &Values, slow: bool) -> bool
+    ensures { λ r. ⌜ r ≡ shownSlow (now (values .entry)) slow ⌝ }
 {
-    if machine_data::function(machine, 3) {
+    if machine_data::function(values, 3) {
         slow
     } else {
         false
@@ -86,22 +87,22 @@ fn placed(
 
 // The word of what a cycle leaves: the effective selection, the stop, F, the cams, and whether the axis is below nx.
 pub fn channel_word(
-    machine: &[i32; 51],
+    values: &Values,
     effective: Selection,
     stop: Stop,
     fault: bool,
     cams: u8,
     slow: bool,
 ) -> u32
-    ensures { λ r. ⌜ r ≡ wordBy (now (machine .entry)) effective stop fault cams slow ⌝ }
+    ensures { λ r. ⌜ r ≡ wordBy (now (values .entry)) effective stop fault cams slow ⌝ }
 {
     let rank = stop.rank().number();
     placed(
         flag(is_effective(effective)),
         flag(rank == 5),
-        shown_cams(machine, cams),
+        shown_cams(values, cams),
         shown_sg(effective),
-        flag(shown_slow(machine, slow)),
+        flag(shown_slow(values, slow)),
         rank,
         flag(is_held(stop)),
         flag(fault),

@@ -6,6 +6,7 @@ ghost use Rattle.machine_data.specs.Data.{numberOf};
 ghost use Rattle.comparison.specs.Comparison.{positionDiffers, runOf, inputsDiffer, datumDiffers, faultNext, expired};
 use inputs::Reading;
 use inputs::Report;
+use machine_data::Values;
 
 // F, and the cycles left to cause 13.
 pub struct Fault {
@@ -14,10 +15,10 @@ pub struct Fault {
 }
 
 // Cause 10.
-pub fn position_differs(machine: &[i32; 51], reading: Reading, report: Report) -> bool
-    ensures { λ r. ⌜ r ≡ positionDiffers (now (machine .entry)) reading report ⌝ }
+pub fn position_differs(values: &Values, reading: Reading, report: Report) -> bool
+    ensures { λ r. ⌜ r ≡ positionDiffers (now (values .entry)) reading report ⌝ }
 {
-    machine_data::number(machine, 26)
+    machine_data::number(values, 26)
         < (distance::distance(reading.position, report.position) as u64)
 }
 
@@ -32,27 +33,27 @@ pub fn run(before: u32, reading: Reading, report: Report) -> u32
 }
 
 // Cause 11.
-pub fn inputs_differ(machine: &[i32; 51], run: u32) -> bool
-    ensures { λ r. ⌜ r ≡ inputsDiffer (now (machine .entry)) run ⌝ }
+pub fn inputs_differ(values: &Values, run: u32) -> bool
+    ensures { λ r. ⌜ r ≡ inputsDiffer (now (values .entry)) run ⌝ }
 {
-    machine_data::cycles(machine, 28) < run
+    machine_data::cycles(values, 28) < run
 }
 
 // Cause 12.
-pub fn datum_differs(machine: &[i32; 51], k: usize, report: Report) -> bool
-    ensures { λ r. ⌜ r ≡ datumDiffers (now (machine .entry)) k report ⌝ }
+pub fn datum_differs(values: &Values, k: usize, report: Report) -> bool
+    ensures { λ r. ⌜ r ≡ datumDiffers (now (values .entry)) k report ⌝ }
 {
-    machine_data::entry(machine, k) != report.datum
+    machine_data::entry(values, k) != report.datum
 }
 
 impl Fault {
     // The cycles left: datum 34 where F is new, else one less.
-    fn count(self, machine: &[i32; 51], new: bool) -> u32
-        ensures { λ r. ⌜ r ≡ cond new (numberOf (now (machine .entry)) 34) (self .left - 1) ⌝ }
+    fn count(self, values: &Values, new: bool) -> u32
+        ensures { λ r. ⌜ r ≡ cond new (numberOf (now (values .entry)) 34) (self .left - 1) ⌝ }
     {
         let left = self.left;
         if new {
-            machine_data::cycles(machine, 34)
+            machine_data::cycles(values, 34)
         } else if left == 0 {
             0
         } else {
@@ -61,18 +62,18 @@ impl Fault {
     }
 
     // F after causes 10 to 12 of a usable cycle.
-    pub fn next(self, machine: &[i32; 51], differs: bool) -> Fault
-        ensures { λ r. ⌜ r ≡ faultNext (now (machine .entry)) differs self ⌝ }
+    pub fn next(self, values: &Values, differs: bool) -> Fault
+        ensures { λ r. ⌜ r ≡ faultNext (now (values .entry)) differs self ⌝ }
     {
         if self.on {
             Fault {
                 on: true,
-                left: self.count(machine, false),
+                left: self.count(values, false),
             }
         } else if differs {
             Fault {
                 on: true,
-                left: self.count(machine, true),
+                left: self.count(values, true),
             }
         } else {
             Fault { on: false, left: 0 }

@@ -101,11 +101,11 @@ module _ (a b : Channel) (words out : List ℕ) where
 
   -- both channels run one after the other, then their device words, as the machine gives them back
   module _ (la lb : State) (outa outb out′ : List ℕ) where
-    pub ran : {n : ℕ} → Sound words out n → RunsAlone a (b .machine .values) (b .state .k) false words out la outa → RunsAlone b (a .machine .values) (a .state .k) true words outa lb outb →
+    pub ran : {n : ℕ} → Sound words out n → RunsAlone a (b .list .values) (b .state .k) false words out la outa → RunsAlone b (a .list .values) (a .state .k) true words outa lb outb →
         out′ ≡ withDevices 0 n outb → LogEnsures a b words out (record { answer = Accepted n; a = withState a la; b = withState b lb }) out′
     ran {n} s runs-a runs-b devices =
-        let da = a .machine .values in
-        let db = b .machine .values in
+        let da = a .list .values in
+        let db = b .list .values in
         let ra = runs-a (s .rs) (s .log) in
         let rb = runs-b (s .rs) (s .log) in
         let wa = wordsAlone false da db (a .state) (b .state .k) (s .rs) in

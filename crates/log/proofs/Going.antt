@@ -128,10 +128,10 @@ module _ {second : Bool} {d e : List ℤ} {s₀ : State} {k₀ : ℕ} {words out
 
 -- at the end of the words
 pub ended : (c : Channel) {e : List ℤ} {k₀ : ℕ} {second : Bool} {words out₀ out : List ℕ} {s : State} {k at place : ℕ} →
-    Going second (c .machine .values) e (c .state) k₀ words out₀ out s k at place → length words ≤ at → RunsAlone c e k₀ second words out₀ s out
+    Going second (c .list .values) e (c .state) k₀ words out₀ out s k at place → length words ≤ at → RunsAlone c e k₀ second words out₀ s out
 unfolding lastAlone wordsAlone thirds
 ended c {e} {k₀} {second} {words} {out₀} {out} {s} {k} {at} {place} g h rs log =
-    let d = c .machine .values in
+    let d = c .list .values in
     let none : [] ≡ g .rest = empty (at-end words at (records (g .rest)) h (g .left)) in
     let all-is : g .all ≡ rs = same-records (sym (g .log) ∙ log) in (
       ap (lastAlone second d e s k) none ∙ g .last ∙ ap (lastAlone second d e (c .state) k₀) all-is,

@@ -42,4 +42,4 @@ pub record Sound (words out : List ℕ) (cycles : ℕ) : Type 0 where
 abbrev pub RunsAlone : Channel → List ℤ → ℕ → Bool → List ℕ → List ℕ → State → List ℕ → Type 0
 RunsAlone c e k second words out s out′ =
     (rs : List CycleRecord) → logOf words ≡ records rs →
-    (s ≡ lastAlone second (c .machine .values) e (c .state) k rs) × (out′ ≡ thirds (cond second 1 0) (wordsAlone second (c .machine .values) e (c .state) k rs) out)
+    (s ≡ lastAlone second (c .list .values) e (c .state) k rs) × (out′ ≡ thirds (cond second 1 0) (wordsAlone second (c .list .values) e (c .state) k rs) out)

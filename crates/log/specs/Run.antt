@@ -67,7 +67,7 @@ abbrev pub bothOf : Channel → Channel → Both
 bothOf a b = record { a = a .state; b = b .state }
 
 abbrev pub withState : Channel → State → Channel
-withState c s = record { machine = c .machine; state = s }
+withState c s = record { list = c .list; state = s }
 
 -- what a log leaves: the answer, both channels, and the output
 pub record Ran : Type 0 where
@@ -83,12 +83,12 @@ refusing a b out number place = record { answer = Refused number place; a = a; b
 -- "from its front on; the output words behind them are not touched. The number of cycles and both channels come back"
 abbrev pub running : Channel → Channel → List ℕ → List CycleRecord → Ran
 running a b out rs =
-    let last = lastOf (a .machine .values) (b .machine .values) (bothOf a b) rs in
+    let last = lastOf (a .list .values) (b .list .values) (bothOf a b) rs in
     record {
       answer = Accepted (length rs);
       a = withState a (last .a);
       b = withState b (last .b);
-      out = linesOf (a .machine .values) (b .machine .values) (bothOf a b) rs ++ drop (3 * length rs) out;
+      out = linesOf (a .list .values) (b .list .values) (bothOf a b) rs ++ drop (3 * length rs) out;
     }
 
 -- "output below 3 words a cycle": 7, the words wanted; "6 before 7"

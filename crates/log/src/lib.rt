@@ -10,6 +10,7 @@ use channel::Channel;
 use channel::Given;
 use channel::State;
 use inputs::Reading;
+use machine_data::Values;
 use records::Scan;
 
 pub enum LogAnswer {
@@ -39,7 +40,7 @@ fn reading_at(words: &[u32], at: usize, second: bool) -> Reading
 }
 
 // What that record gives a channel: its own reading, and the other's report by the other's k.
-fn given_at(words: &[u32], at: usize, second: bool, other: &[i32; 51], k: u8) -> Given
+fn given_at(words: &[u32], at: usize, second: bool, other: &Values, k: u8) -> Given
     requires { ⌜ at + 7 ≤ length (now words) ⌝ }
     ensures { λ r. ⌜ r ≡ givenIn second (now (other .entry)) k (recordFrom (now (words .entry)) at) ⌝ }
 {
@@ -62,7 +63,7 @@ fn first_place(second: bool) -> usize
 // so each channel runs by itself. The data come by value: a copy that no write to the output can reach is read once.
 fn run_channel(
     own: Channel,
-    other: &[i32; 51],
+    other: &Values,
     k: u8,
     second: bool,
     words: &[u32],
@@ -71,7 +72,7 @@ fn run_channel(
     requires { ⌜ Enough (now words) (now out) ⌝ }
     ensures { λ r. ⌜ RunsAlone own (now (other .entry)) k second (now (words .entry)) (now (out .entry)) r (now (out .exit)) ⌝ }
 {
-    let machine = own.machine;
+    let list = own.list;
     let mut state = own.state;
     let mut reported = k;
     let mut at = 0usize;
@@ -79,7 +80,7 @@ fn run_channel(
     while at < words.len() {
         if records::begins_record(words[at]) {
             let given = given_at(words, at, second, other, reported);
-            let after = channel::advance(&machine.values, state, given);
+            let after = channel::advance(&list.values, state, given);
             out[next] = after.word;
             let reached = after.state;
             state = reached;
@@ -122,8 +123,8 @@ fn accepted(a: Channel, b: Channel, words: &[u32], out: &mut [u32], cycles: usiz
     requires { ⌜ Sound (now words) (now out) cycles ⌝ }
     ensures { λ r. ⌜ LogEnsures a b (now (words .entry)) (now (out .entry)) r (now (out .exit)) ⌝ }
 {
-    let ma = a.machine;
-    let mb = b.machine;
+    let ma = a.list;
+    let mb = b.list;
     let sa = a.state;
     let sb = b.state;
     let la = run_channel(a, &mb.values, sb.k, false, words, out);
@@ -132,11 +133,11 @@ fn accepted(a: Channel, b: Channel, words: &[u32], out: &mut [u32], cycles: usiz
     LogRun {
         answer: LogAnswer::Accepted(cycles),
         a: Channel {
-            machine: ma,
+            list: ma,
             state: la,
         },
         b: Channel {
-            machine: mb,
+            list: mb,
             state: lb,
         },
     }

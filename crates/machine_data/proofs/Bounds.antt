@@ -10,7 +10,7 @@ use lib.IntN.{ℤ, pos, negsuc}
 use lib.Signed.{leZ}
 use lib.Dec.{T, ltb, leb, leb→le, lit<}
 use lib.Ieee.Fits.{and-l, and-r}
-use Rattle.machine_data.specs.Table.{lowOf, highOf, inRange}
+use Rattle.machine_data.specs.Table.{dataCount, lowOf, highOf, inRange}
 use Rattle.machine_data.specs.Data.{datumOf, size, numberOf}
 use Rattle.machine_data.proofs.Stands.{in-range}
 
@@ -35,7 +35,7 @@ ranged least most k = leb least (size (lowOf k)) && leb (size (highOf k)) most
 
 module _ (d : List ℤ) where
   -- datum from + i, of a run of n whose ranges lie between the two
-  pub between : (from n least most i : ℕ) → T (each (λ i. ranged least most (from + i)) n) → i < n → from + n ≤ 51 →
+  pub between : (from n least most i : ℕ) → T (each (λ i. ranged least most (from + i)) n) → i < n → from + n ≤ dataCount →
       (least ≤ numberOf d (from + i)) × (numberOf d (from + i) ≤ most)
   unfolding numberOf inRange
   between from n least most i t h e =
@@ -43,9 +43,9 @@ module _ (d : List ℤ) where
       let z = datumOf d k in
       let r = each-at (λ i. ranged least most (from + i)) n i t h in
       let s = in-range d k (omega arith) in
-      let a = ltb k 51 && leZ (lowOf k) z in (
+      let a = ltb k dataCount && leZ (lowOf k) z in (
         le-trans (leb→le least (size (lowOf k)) (and-l (leb least (size (lowOf k))) (leb (size (highOf k)) most) r))
-            (size-mono (lowOf k) z (and-r (ltb k 51) (leZ (lowOf k) z) (and-l a (leZ z (highOf k)) s))),
+            (size-mono (lowOf k) z (and-r (ltb k dataCount) (leZ (lowOf k) z) (and-l a (leZ z (highOf k)) s))),
         le-trans (size-mono z (highOf k) (and-r a (leZ z (highOf k)) s))
             (leb→le (size (highOf k)) most (and-r (leb least (size (lowOf k))) (leb (size (highOf k)) most) r)),
       )
@@ -54,11 +54,11 @@ module _ (d : List ℤ) where
   pub cycle : (1 ≤ numberOf d 0) × (numberOf d 0 ≤ 25)
   cycle = between 0 1 1 25 0 tt (lit< tt) (omega arith)
 
-  -- every datum; there is none past 50
+  -- every datum; there is none past the last
   pub number-most : (k : ℕ) → numberOf d k ≤ 100_000_000
   unfolding numberOf datumOf
-  number-most k = go (ltb k 51) refl
+  number-most k = go (ltb k dataCount) refl
     where
-      go : (t : Bool) → ltb k 51 ≡ t → numberOf d k ≤ 100_000_000
-      go true e = rw zero-add at (between 0 51 0 100_000_000 k tt (ltb-true k 51 e) (omega arith) .1)
+      go : (t : Bool) → ltb k dataCount ≡ t → numberOf d k ≤ 100_000_000
+      go true e = rw zero-add at (between 0 dataCount 0 100_000_000 k tt (ltb-true k dataCount e) (omega arith) .1)
       go false e = rw e (omega arith)

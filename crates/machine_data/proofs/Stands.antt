@@ -10,7 +10,7 @@ use lib.Signed.{ltZ, leZ, ltZ-yes, leZ-yes, ≤ℤ-refl, clashℤ}
 use lib.Dec.{T, leb, ltb, leb→le, lt→ltb}
 use lib.Ieee.Fits.{and-i, and-l, and-r}
 use lib.Ieee.Bits.{is-true}
-use Rattle.machine_data.specs.Table.{Row, rows, rowOf, lowOf, highOf, inRange}
+use Rattle.machine_data.specs.Table.{dataCount, Row, rows, rowOf, lowOf, highOf, inRange}
 use Rattle.machine_data.specs.Data.{nearest, datumOf, size, numberOf}
 use Rattle.machine_data.proofs.Tests.{not-lt-le}
 
@@ -31,9 +31,9 @@ pub as-stands : (d : List ℤ) (k : ℕ) → T (inRange k (getD d k (pos 0))) �
 unfolding datumOf inRange
 as-stands d k h =
     let z = getD d k (pos 0) in
-    let least = ltb k 51 && leZ (lowOf k) z in
-    simp (is-true (ltb k 51) (and-l (ltb k 51) (leZ (lowOf k) z) (and-l least (leZ z (highOf k)) h)))
-    (nearest-same (lowOf k) (highOf k) z (and-r (ltb k 51) (leZ (lowOf k) z) (and-l least (leZ z (highOf k)) h)) (and-r least (leZ z (highOf k)) h))
+    let least = ltb k dataCount && leZ (lowOf k) z in
+    simp (is-true (ltb k dataCount) (and-l (ltb k dataCount) (leZ (lowOf k) z) (and-l least (leZ z (highOf k)) h)))
+    (nearest-same (lowOf k) (highOf k) z (and-r (ltb k dataCount) (leZ (lowOf k) z) (and-l least (leZ z (highOf k)) h)) (and-r least (leZ z (highOf k)) h))
 
 -- ---- within its range
 
@@ -60,19 +60,19 @@ nearest-in low high z h = go (ltZ z low) refl (ltZ high z) refl
     go false p true q = (h, ≤ℤ-refl high .le)
     go false p false q = (subst T (sym (not-lt-le z low p)) tt, subst T (sym (not-lt-le high z q)) tt)
 
-pub in-range : (d : List ℤ) (k : ℕ) → k < 51 → T (inRange k (datumOf d k))
+pub in-range : (d : List ℤ) (k : ℕ) → k < dataCount → T (inRange k (datumOf d k))
 unfolding datumOf inRange rising
 in-range d k h =
     let z = nearest (lowOf k) (highOf k) (getD d k (pos 0)) in
     let r = nearest-in (lowOf k) (highOf k) (getD d k (pos 0)) (row-rises rows k tt) in
-    simp (is-true (ltb k 51) (lt→ltb k 51 h)) (and-i (leZ (lowOf k) z) (leZ z (highOf k)) (r .0) (r .1))
+    simp (is-true (ltb k dataCount) (lt→ltb k dataCount h)) (and-i (leZ (lowOf k) z) (leZ z (highOf k)) (r .0) (r .1))
 
 -- ---- the same of a number, for whoever computes with it
 
-module _ (d : List ℤ) (k n : ℕ) (h : k < 51) where
+module _ (d : List ℤ) (k n : ℕ) (h : k < dataCount) where
   pub number-high : highOf k ≡ pos n → numberOf d k ≤ n
   unfolding numberOf inRange
-  number-high e = go (datumOf d k) (subst (λ (z : ℤ). T (leZ (datumOf d k) z)) e (and-r (ltb k 51 && leZ (lowOf k) (datumOf d k)) (leZ (datumOf d k) (highOf k)) (in-range d k h)))
+  number-high e = go (datumOf d k) (subst (λ (z : ℤ). T (leZ (datumOf d k) z)) e (and-r (ltb k dataCount && leZ (lowOf k) (datumOf d k)) (leZ (datumOf d k) (highOf k)) (in-range d k h)))
     where
       go : (z : ℤ) → T (leZ z (pos n)) → size z ≤ n
       go (pos m) t = leb→le m n t
@@ -80,7 +80,7 @@ module _ (d : List ℤ) (k n : ℕ) (h : k < 51) where
 
   pub number-low : lowOf k ≡ pos n → n ≤ numberOf d k
   unfolding numberOf inRange
-  number-low e = go (datumOf d k) (subst (λ (z : ℤ). T (leZ z (datumOf d k))) e (and-r (ltb k 51) (leZ (lowOf k) (datumOf d k)) (and-l (ltb k 51 && leZ (lowOf k) (datumOf d k)) (leZ (datumOf d k) (highOf k)) (in-range d k h))))
+  number-low e = go (datumOf d k) (subst (λ (z : ℤ). T (leZ z (datumOf d k))) e (and-r (ltb k dataCount) (leZ (lowOf k) (datumOf d k)) (and-l (ltb k dataCount && leZ (lowOf k) (datumOf d k)) (leZ (datumOf d k) (highOf k)) (in-range d k h))))
     where
       go : (z : ℤ) → T (leZ (pos n) z) → n ≤ size z
       go (pos m) t = leb→le n m t

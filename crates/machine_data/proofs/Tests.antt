@@ -10,7 +10,7 @@ use lib.Ieee.Bits.{is-true}
 use lib.Dec.{T}
 use native.Mathlib.Omega.{arith}
 use borrow.Author.Tests.{lt-ltb, ltb-true}
-use Rattle.machine_data.specs.Table.{lowOf, highOf, inRange}
+use Rattle.machine_data.specs.Table.{dataCount, lowOf, highOf, inRange}
 use Rattle.machine_data.specs.Data.{nearest, datumOf, size}
 
 pub lt-not-le : (a b : ℤ) → ltZ a b ≡ true → leZ b a ≡ false
@@ -24,7 +24,7 @@ pub not-lt-le : (a b : ℤ) → ltZ a b ≡ false → leZ b a ≡ true
 not-lt-le a b h = is-true (leZ b a) (ltZ-no {a = a} {b = b} (subst (λ (t : Bool). T (not t)) (sym h) tt) .le)
 
 -- a, b and c are z and the ends as the machine has them
-module _ (k : ℕ) (h : k < 51) (z a b c : ℤ) (ea : a ≡ z) (eb : b ≡ lowOf k) (ec : c ≡ highOf k) where
+module _ (k : ℕ) (h : k < dataCount) (z a b c : ℤ) (ea : a ≡ z) (eb : b ≡ lowOf k) (ec : c ≡ highOf k) where
   low-test : (t : Bool) → ltZ a b ≡ t → ltZ z (lowOf k) ≡ t
   low-test t q = sym (λ i. ltZ (ea i) (eb i)) ∙ q
 
@@ -33,16 +33,16 @@ module _ (k : ℕ) (h : k < 51) (z a b c : ℤ) (ea : a ≡ z) (eb : b ≡ lowOf
 
   pub too-low : ltZ a b ≡ true → false ≡ inRange k z
   unfolding inRange
-  too-low q = sym (simp (lt-ltb k 51 h, lt-not-le z (lowOf k) (low-test true q)))
+  too-low q = sym (simp (lt-ltb k dataCount h, lt-not-le z (lowOf k) (low-test true q)))
 
   pub not-low : ltZ a b ≡ false → leZ a c ≡ inRange k z
   unfolding inRange
-  not-low q = (λ i. leZ (ea i) (ec i)) ∙ sym (simp (lt-ltb k 51 h, not-lt-le z (lowOf k) (low-test false q)))
+  not-low q = (λ i. leZ (ea i) (ec i)) ∙ sym (simp (lt-ltb k dataCount h, not-lt-le z (lowOf k) (low-test false q)))
 
   module _ (d : List ℤ) (at : getD d k (pos 0) ≡ z) where
     read : datumOf d k ≡ nearest (lowOf k) (highOf k) z
     unfolding datumOf
-    read = simp (lt-ltb k 51 h) (ap (nearest (lowOf k) (highOf k)) at)
+    read = simp (lt-ltb k dataCount h) (ap (nearest (lowOf k) (highOf k)) at)
 
     pub reads-low : ltZ a b ≡ true → b ≡ datumOf d k
     unfolding nearest

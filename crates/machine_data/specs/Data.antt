@@ -8,7 +8,7 @@ use lib.IntN.{ℤ, pos, negsuc}
 use lib.Signed.{ltZ}
 use lib.Dec.{T, ltb}
 use Rattle.bits.specs.Bits.{bitOf}
-use Rattle.machine_data.specs.Table.{lowOf, highOf, inRange}
+use Rattle.machine_data.specs.Table.{dataCount, lowOf, highOf, inRange}
 
 -- z, or the nearer end
 unfoldable pub nearest : ℤ → ℤ → ℤ → ℤ
@@ -16,7 +16,7 @@ nearest low high z = cond (ltZ z low) low (cond (ltZ high z) high z)
 
 -- datum k of the values d, within its range; 0 where there is none
 unfoldable pub datumOf : List ℤ → ℕ → ℤ
-datumOf d k = cond (ltb k 51) (nearest (lowOf k) (highOf k) (getD d k (pos 0))) (pos 0)
+datumOf d k = cond (ltb k dataCount) (nearest (lowOf k) (highOf k) (getD d k (pos 0))) (pos 0)
 
 abbrev pub size : ℤ → ℕ
 size (pos n) = n
@@ -28,11 +28,11 @@ numberOf d k = size (datumOf d k)
 
 -- datum k as it stands; 0 where there is none
 abbrev pub entryOf : List ℤ → ℕ → ℤ
-entryOf d k = cond (ltb k 51) (getD d k (pos 0)) (pos 0)
+entryOf d k = cond (ltb k dataCount) (getD d k (pos 0)) (pos 0)
 
 -- each datum lies within its range, as in every accepted list
 abbrev pub InRanges : List ℤ → Type 0
-InRanges d = (k : ℕ) → k < 51 → T (inRange k (getD d k (pos 0)))
+InRanges d = (k : ℕ) → k < dataCount → T (inRange k (getD d k (pos 0)))
 
 -- "functions; bit 0 SBH/SG, 1 SE, 2 cams, 3 n<nx, 4 external stops": function n is on
 unfoldable pub functionOf : List ℤ → ℕ → Bool

@@ -7,6 +7,10 @@ use lib.Signed.{leZ}
 use lib.Dec.{leb, ltb}
 use Rattle.machine_data.specs.declared.Range.{Range}
 
+-- "numbers 0 to 50": how many data a list has
+abbrev pub dataCount : ℕ
+dataCount = 51
+
 -- a row of the table: the data up to number `last`, from the row before on
 pub record Row : Type 0 where
   pub last : ℕ
@@ -74,4 +78,4 @@ rangeOf k = record { low = lowOf k; high = highOf k }
 
 -- z may be datum k; "numbers 0 to 50"
 unfoldable pub inRange : ℕ → ℤ → Bool
-inRange k z = ltb k 51 && leZ (lowOf k) z && leZ z (highOf k)
+inRange k z = ltb k dataCount && leZ (lowOf k) z && leZ z (highOf k)

@@ -1,12 +1,21 @@
-// The machine data of a channel: the table of ranges, the 51 data of a list, and a datum read within its range.
+// The machine data of a channel: the table of ranges, the data of a list, and a datum read within its range.
+pub mod functions;
+pub mod numbers;
+
 ghost use mathlib.Core.Path.{_≡_};
 ghost use Prim.Native.Nat.{_<_, _≤_, _+_, _%_};
-ghost use Rattle.machine_data.specs.Table.{lowOf, highOf, rangeOf, inRange};
+ghost use Rattle.machine_data.specs.Table.{dataCount, lowOf, highOf, rangeOf, inRange};
 ghost use Rattle.machine_data.specs.Data.{datumOf, size, numberOf, entryOf, functionOf};
 
-// The 51 data of an accepted list; a count of 0 where there is no list.
+// How many data a list has.
+pub const DATA: usize = 51;
+
+// The data by their numbers, as they are lent.
+pub type Values = [i32; DATA];
+
+// The data of an accepted list, and how many it has; a count of 0 where there is no list.
 pub struct MachineData {
-    pub values: [i32; 51],
+    pub values: Values,
     pub count: usize,
 }
 
@@ -50,7 +59,7 @@ fn range_to_15(k: usize) -> Range
 // The rows behind it, those with many data first.
 fn range_from_16(k: usize) -> Range
     requires { ⌜ 16 ≤ k ⌝ }
-    requires { ⌜ k < 51 ⌝ }
+    requires { ⌜ k < dataCount ⌝ }
     ensures { λ r. ⌜ r ≡ rangeOf k ⌝ }
 {
     if k < 24 {
@@ -89,7 +98,7 @@ fn range_from_16(k: usize) -> Range
 
 // The range of datum k, in two halves, so that a list passes few rows for each datum.
 fn range_of(k: usize) -> Range
-    requires { ⌜ k < 51 ⌝ }
+    requires { ⌜ k < dataCount ⌝ }
     ensures { λ r. ⌜ r ≡ rangeOf k ⌝ }
 {
     if k < 16 {
@@ -99,11 +108,11 @@ fn range_of(k: usize) -> Range
     }
 }
 
-// Whether z may be datum k. There is no datum past 50.
+// Whether z may be datum k. There is none past the last.
 pub fn in_range(k: usize, z: i32) -> bool
     ensures { λ r. ⌜ r ≡ inRange k z ⌝ }
 {
-    if 51 <= k {
+    if DATA <= k {
         return false;
     }
     let range = range_of(k);
@@ -114,8 +123,8 @@ pub fn in_range(k: usize, z: i32) -> bool
 }
 
 // Datum k between the ends of its range: what lies outside, as in no accepted list, reads as the nearer end.
-fn read(values: &[i32; 51], k: usize, least: i32, most: i32) -> i32
-    requires { ⌜ k < 51 ⌝ }
+fn read(values: &Values, k: usize, least: i32, most: i32) -> i32
+    requires { ⌜ k < dataCount ⌝ }
     requires { ⌜ least ≡ lowOf k ⌝ }
     requires { ⌜ most ≡ highOf k ⌝ }
     ensures { λ r. ⌜ r ≡ datumOf (now (values .entry)) k ⌝ }
@@ -138,10 +147,10 @@ fn size(z: i32) -> u64
 }
 
 // Datum k, read within its range.
-pub fn datum(values: &[i32; 51], k: usize) -> i32
+pub fn datum(values: &Values, k: usize) -> i32
     ensures { λ r. ⌜ r ≡ datumOf (now (values .entry)) k ⌝ }
 {
-    if 51 <= k {
+    if DATA <= k {
         return 0;
     }
     let range = range_of(k);
@@ -149,57 +158,57 @@ pub fn datum(values: &[i32; 51], k: usize) -> i32
 }
 
 // Datum k as a number.
-pub fn number(values: &[i32; 51], k: usize) -> u64
+pub fn number(values: &Values, k: usize) -> u64
     ensures { λ r. ⌜ r ≡ numberOf (now (values .entry)) k ⌝ }
 {
     size(datum(values, k))
 }
 
 // Datum k as a count of cycles, in a type that keeps a channel's state small.
-pub fn cycles(values: &[i32; 51], k: usize) -> u32
+pub fn cycles(values: &Values, k: usize) -> u32
     ensures { λ r. ⌜ r ≡ numberOf (now (values .entry)) k ⌝ }
 {
     number(values, k) as u32
 }
 
 // The limit of SG n + 1.
-pub fn sg_limit(values: &[i32; 51], n: u8) -> u64
+pub fn sg_limit(values: &Values, n: u8) -> u64
     ensures { λ r. ⌜ r ≡ numberOf (now (values .entry)) (3 + n % 4) ⌝ }
 {
-    size(read(values, 3 + ((n % 4) as usize), 1, 1000000))
+    size(read(values, numbers::SG_LIMIT + ((n % 4) as usize), 1, 1000000))
 }
 
 // The stop of SG n + 1, by its rank's number.
-pub fn sg_stop(values: &[i32; 51], n: u8) -> u64
+pub fn sg_stop(values: &Values, n: u8) -> u64
     ensures { λ r. ⌜ r ≡ numberOf (now (values .entry)) (7 + n % 4) ⌝ }
 {
-    size(read(values, 7 + ((n % 4) as usize), 1, 5))
+    size(read(values, numbers::SG_STOP + ((n % 4) as usize), 1, 5))
 }
 
 // The edge of cam n, in data order.
-pub fn cam_edge(values: &[i32; 51], n: usize) -> i32
+pub fn cam_edge(values: &Values, n: usize) -> i32
     ensures { λ r. ⌜ r ≡ datumOf (now (values .entry)) (16 + n % 8) ⌝ }
 {
-    read(values, 16 + n % 8, -100000000, 100000000)
+    read(values, numbers::CAM + n % 8, -100000000, 100000000)
 }
 
 // The percent of override n.
-pub fn percent(values: &[i32; 51], n: u8) -> u64
+pub fn percent(values: &Values, n: u8) -> u64
     ensures { λ r. ⌜ r ≡ numberOf (now (values .entry)) (35 + n % 16) ⌝ }
 {
-    size(read(values, 35 + ((n % 16) as usize), 1, 100))
+    size(read(values, numbers::OVERRIDE + ((n % 16) as usize), 1, 100))
 }
 
 // Datum k as it stands, for a report and its comparison.
-pub fn entry(values: &[i32; 51], k: usize) -> i32
+pub fn entry(values: &Values, k: usize) -> i32
     ensures { λ r. ⌜ r ≡ entryOf (now (values .entry)) k ⌝ }
 {
-    if k < 51 { values[k] } else { 0 }
+    if k < DATA { values[k] } else { 0 }
 }
 
 // Whether function n is on.
-pub fn function(values: &[i32; 51], n: u32) -> bool
+pub fn function(values: &Values, n: u32) -> bool
     ensures { λ r. ⌜ r ≡ functionOf (now (values .entry)) n ⌝ }
 {
-    bits::bit(number(values, 1) as u32, n)
+    bits::bit(number(values, numbers::FUNCTIONS) as u32, n)
 }

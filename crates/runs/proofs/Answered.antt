@@ -24,17 +24,17 @@ record Answer (c : Channel) (x : Call) : Type 0 where
 
 answer : (c : Channel) (x : Call) → Answer c x
 answer c (single g other) =
-    let w = word (c .machine .values) (c .state) g in
+    let w = word (c .list .values) (c .state) g in
     let r : SingleOutcome = record {
-      channel = withState c (next (c .machine .values) (c .state) g);
+      channel = withState c (next (c .list .values) (c .state) g);
       word = w;
-      causes = listed (rowsOf (c .machine .values) (c .state) g) noCauses;
+      causes = listed (rowsOf (c .list .values) (c .state) g) noCauses;
       device = deviceOf w other;
     } in
     record {
       channel = r .channel;
       words = record { channel = r .word; device = r .device } ∷ [];
-      is = cycled r (record { cycle = record { channel = refl; word-is = refl; causes = lists (rowsOf (c .machine .values) (c .state) g) (few-rows (c .machine .values) (c .state) g) }; device = refl });
+      is = cycled r (record { cycle = record { channel = refl; word-is = refl; causes = lists (rowsOf (c .list .values) (c .state) g) (few-rows (c .list .values) (c .state) g) }; device = refl });
     }
 answer c (logged s o words out) =
     let x = ranOf (own s c o) (own s o c) words out in

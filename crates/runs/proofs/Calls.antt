@@ -16,16 +16,16 @@ unfolding cyclesOf
 call-leads {c} (cycled {g} {other} r e) =
     rw (e .cycle .channel)
     (record {
-      machine = refl;
+      list = refl;
       trace = step (record { word-is = e .cycle .word-is; over = subst (Over (r .word)) (sym (e .device)) (over-first (r .word) other) }) done;
     })
 call-leads {c} (ran {s} {o} {words} {out} r out′ e) =
     rw (e .answer, e .output, e .channel-a, e .channel-b, same-answer o o (own s c o) (own s o c) words out) (ran-leads s c o words out)
 
-pub calls-lead : {c : Channel} {xs : List Call} {ws : List Words} → Answers c xs ws → (t : State) × Trace (c .machine .values) (c .state) (allCycles xs) ws t
+pub calls-lead : {c : Channel} {xs : List Call} {ws : List Words} → Answers c xs ws → (t : State) × Trace (c .list .values) (c .state) (allCycles xs) ws t
 unfolding allCycles
 calls-lead (none {c}) = (c .state, done)
 calls-lead (then {c′ = c′} {xs = xs} {vs = vs} a rest) =
     let x = call-leads a in
     let y = calls-lead rest in
-    (y .0, trace-append (x .trace) (subst (λ m. Trace (m .values) (c′ .state) (allCycles xs) vs (y .0)) (x .machine) (y .1)))
+    (y .0, trace-append (x .trace) (subst (λ m. Trace (m .values) (c′ .state) (allCycles xs) vs (y .0)) (x .list) (y .1)))

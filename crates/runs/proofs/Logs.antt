@@ -28,21 +28,21 @@ other as-b = as-a
 
 -- what a record gives a channel, and makes of it
 abbrev givenIn : Side → Channel → Channel → CycleRecord → Given
-givenIn s c o r = givenOf s (o .machine .values) (o .state .k) r
+givenIn s c o r = givenOf s (o .list .values) (o .state .k) r
 
 abbrev wordIn : Side → Channel → Channel → CycleRecord → ℕ
-wordIn s c o r = word (c .machine .values) (c .state) (givenIn s c o r)
+wordIn s c o r = word (c .list .values) (c .state) (givenIn s c o r)
 
 abbrev after : Side → Channel → Channel → CycleRecord → Channel
-after s c o r = withState c (next (c .machine .values) (c .state) (givenIn s c o r))
+after s c o r = withState c (next (c .list .values) (c .state) (givenIn s c o r))
 
 -- the lines of a log, and the state after it
 abbrev lines : Side → Channel → Channel → List CycleRecord → List ℕ
-lines s c o rs = linesOf (own s c o .machine .values) (own s o c .machine .values) (bothOf (own s c o) (own s o c)) rs
+lines s c o rs = linesOf (own s c o .list .values) (own s o c .list .values) (bothOf (own s c o) (own s o c)) rs
 
 abbrev last : Side → Channel → Channel → List CycleRecord → State
 last s c o rs =
-    let x = lastOf (own s c o .machine .values) (own s o c .machine .values) (bothOf (own s c o) (own s o c)) rs in
+    let x = lastOf (own s c o .list .values) (own s o c .list .values) (bothOf (own s c o) (own s o c)) rs in
     own s (x .a) (x .b)
 
 -- the words of a line, A's first
@@ -90,7 +90,7 @@ line-words s v w out n = λ j. first-words s v w out j ∷ later-words s (own s 
 -- ---- its cycles, and what they give
 
 log-trace : (s : Side) (c o : Channel) (rs : List CycleRecord) (rest : List ℕ) →
-    Trace (c .machine .values) (c .state) (givensOf s (o .machine .values) (o .state .k) rs) (wordsFrom s (lines s c o rs ++ rest) 0 (length rs)) (last s c o rs)
+    Trace (c .list .values) (c .state) (givensOf s (o .list .values) (o .state .k) rs) (wordsFrom s (lines s c o rs ++ rest) 0 (length rs)) (last s c o rs)
 unfolding givensOf
 log-trace s c o [] rest = unfold wordsFrom in rw (last-none s c o) done
 log-trace s c o (r ∷ rs) rest =
@@ -99,29 +99,29 @@ log-trace s c o (r ∷ rs) rest =
     let out = lines s c′ o′ rs ++ rest in
     rw (last-turn s c o r rs, lines-turn s c o r rs, line-words s (wordIn s c o r) (wordIn (other s) o c r) out (length rs))
     (step (record { word-is = refl; over = line-over s (wordIn s c o r) (wordIn (other s) o c r) })
-    (subst (λ k. Trace (c .machine .values) (c′ .state) (givensOf s (o .machine .values) k rs) (wordsFrom s out 0 (length rs)) (last s c′ o′ rs))
-    (k-next (o .machine .values) (o .state) (givenIn (other s) o c r))
+    (subst (λ k. Trace (c .list .values) (c′ .state) (givensOf s (o .list .values) k rs) (wordsFrom s out 0 (length rs)) (last s c′ o′ rs))
+    (k-next (o .list .values) (o .state) (givenIn (other s) o c r))
     (log-trace s c′ o′ rs rest)))
 
 -- a channel c becomes c′ over the cycles gs, in which the words ws are given, and keeps its data
 pub record Leads (c : Channel) (gs : List Given) (ws : List Words) (c′ : Channel) : Type 0 where
-  pub machine : c′ .machine ≡ c .machine
-  pub trace : Trace (c .machine .values) (c .state) gs ws (c′ .state)
+  pub list : c′ .list ≡ c .list
+  pub trace : Trace (c .list .values) (c .state) gs ws (c′ .state)
 
 refused-leads : (s : Side) (c o : Channel) → Leads c [] [] (own s (own s c o) (own s o c))
-refused-leads as-a c o = record { machine = refl; trace = done }
-refused-leads as-b c o = record { machine = refl; trace = done }
+refused-leads as-a c o = record { list = refl; trace = done }
+refused-leads as-b c o = record { list = refl; trace = done }
 
 running-leads : (s : Side) (c o : Channel) (out : List ℕ) (rs : List CycleRecord) →
     let x = running (own s c o) (own s o c) out rs in
-    Leads c (givensOf s (o .machine .values) (o .state .k) rs) (wordsFrom s (x .out) 0 (length rs)) (own s (x .a) (x .b))
-running-leads as-a c o out rs = record { machine = refl; trace = log-trace as-a c o rs (drop (3 * length rs) out) }
-running-leads as-b c o out rs = record { machine = refl; trace = log-trace as-b c o rs (drop (3 * length rs) out) }
+    Leads c (givensOf s (o .list .values) (o .state .k) rs) (wordsFrom s (x .out) 0 (length rs)) (own s (x .a) (x .b))
+running-leads as-a c o out rs = record { list = refl; trace = log-trace as-a c o rs (drop (3 * length rs) out) }
+running-leads as-b c o out rs = record { list = refl; trace = log-trace as-b c o rs (drop (3 * length rs) out) }
 
 -- a log that leaves x
 abbrev pub LogLeads : Side → Channel → Channel → LogRead → Ran → Type 0
 LogLeads s c o l x =
-    Leads c (givensOf s (o .machine .values) (o .state .k) (recordsRun (x .answer) l)) (answeredWords s (x .answer) (x .out)) (own s (x .a) (x .b))
+    Leads c (givensOf s (o .list .values) (o .state .k) (recordsRun (x .answer) l)) (answeredWords s (x .answer) (x .out)) (own s (x .a) (x .b))
 
 pub ran-leads : (s : Side) (c o : Channel) (words out : List ℕ) → LogLeads s c o (logOf words) (ranOf (own s c o) (own s o c) words out)
 unfolding ranOf givensOf

@@ -48,7 +48,7 @@ recordsRun (Refused number place) l = []
 unfoldable pub cyclesOf : Call → List Given
 cyclesOf (single g other) = g ∷ []
 cyclesOf (logged s o words out) =
-    givensOf s (o .machine .values) (o .state .k) (recordsRun (ranOf o o words out .answer) (logOf words))
+    givensOf s (o .list .values) (o .state .k) (recordsRun (ranOf o o words out .answer) (logOf words))
 
 -- "Cycles, those of accepted logs too, count through the whole list"
 unfoldable pub allCycles : List Call → List Given

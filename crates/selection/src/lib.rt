@@ -2,6 +2,7 @@
 ghost use mathlib.Core.Path.{_≡_};
 ghost use Rattle.selection.specs.Selection.{selectedOf, allowanceOf, stricter, isSg, sameSg, isSbh, referenceOf, boundOf, countOf, waitedOf, choiceNext};
 use inputs::Reading;
+use machine_data::Values;
 
 pub enum Selection {
     Nothing,
@@ -19,10 +20,10 @@ pub struct Choice {
 }
 
 // What an input word selects.
-pub fn selected(machine: &[i32; 51], inputs: u32) -> Selection
-    ensures { λ r. ⌜ r ≡ selectedOf (now (machine .entry)) inputs ⌝ }
+pub fn selected(values: &Values, inputs: u32) -> Selection
+    ensures { λ r. ⌜ r ≡ selectedOf (now (values .entry)) inputs ⌝ }
 {
-    if machine_data::function(machine, 0) {
+    if machine_data::function(values, 0) {
         if bits::bit(inputs, 0) {
             Selection::Nothing
         } else if bits::bit(inputs, 1) {
@@ -38,12 +39,12 @@ pub fn selected(machine: &[i32; 51], inputs: u32) -> Selection
 }
 
 // The speed that a selection allows, as limit × percent: SBH none, nothing more than any SG.
-fn allowance(machine: &[i32; 51], s: Selection) -> u64
-    ensures { λ r. ⌜ r ≡ allowanceOf (now (machine .entry)) s ⌝ }
+fn allowance(values: &Values, s: Selection) -> u64
+    ensures { λ r. ⌜ r ≡ allowanceOf (now (values .entry)) s ⌝ }
 {
     match s {
         Selection::Nothing => 100000001,
-        Selection::Sg(n, o) => speed::sg_speed(machine, n, o),
+        Selection::Sg(n, o) => speed::sg_speed(values, n, o),
         Selection::Sbh => 0,
     }
 }
@@ -110,12 +111,12 @@ impl Choice {
     }
 
     // The count of a lowering: datum 27 where none is under way, else one less.
-    fn count(self, machine: &[i32; 51]) -> u32
-        ensures { λ r. ⌜ r ≡ countOf (now (machine .entry)) (self .left) ⌝ }
+    fn count(self, values: &Values) -> u32
+        ensures { λ r. ⌜ r ≡ countOf (now (values .entry)) (self .left) ⌝ }
     {
         let running = self.left;
         if running == 0 {
-            machine_data::cycles(machine, 27)
+            machine_data::cycles(values, 27)
         } else {
             running - 1
         }
@@ -138,23 +139,23 @@ impl Choice {
     }
 
     // Whether s is stricter than what is effective.
-    fn lowered(self, machine: &[i32; 51], s: Selection) -> bool
-        ensures { λ r. ⌜ r ≡ stricter (now (machine .entry)) s (self .effective) ⌝ }
+    fn lowered(self, values: &Values, s: Selection) -> bool
+        ensures { λ r. ⌜ r ≡ stricter (now (values .entry)) s (self .effective) ⌝ }
     {
         let e = self.effective;
         if same_sg(s, e) {
             return false;
         }
-        allowance(machine, s) < allowance(machine, e)
+        allowance(values, s) < allowance(values, e)
     }
 
     // The choice after a usable cycle that selects s.
-    pub fn next(self, machine: &[i32; 51], s: Selection, reading: Reading) -> Choice
-        ensures { λ r. ⌜ r ≡ choiceNext (now (machine .entry)) self s (reading .position) ⌝ }
+    pub fn next(self, values: &Values, s: Selection, reading: Reading) -> Choice
+        ensures { λ r. ⌜ r ≡ choiceNext (now (values .entry)) self s (reading .position) ⌝ }
     {
         if self.chosen {
-            if self.lowered(machine, s) {
-                self.waited(s, reading, self.count(machine))
+            if self.lowered(values, s) {
+                self.waited(s, reading, self.count(values))
             } else {
                 self.bound(s, reading)
             }

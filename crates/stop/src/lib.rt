@@ -3,6 +3,7 @@ ghost use mathlib.Core.Path.{_≡_};
 ghost use Prim.Native.Nat.{_-_};
 ghost use Rattle.stop.specs.Stop.{rankNumber, rankFrom, strongerOf, timeOf, rankOf, enteredOf, countedOf, heldAt, brakedAt, atCount, settledOf, stopNext};
 use inputs::Reading;
+use machine_data::Values;
 
 pub enum Rank {
     None,
@@ -72,15 +73,15 @@ impl Rank {
     }
 
     // The time of a stop, in cycles. A has none.
-    pub fn time(self, machine: &[i32; 51]) -> u32
-        ensures { λ r. ⌜ r ≡ timeOf (now (machine .entry)) self ⌝ }
+    pub fn time(self, values: &Values) -> u32
+        ensures { λ r. ⌜ r ≡ timeOf (now (values .entry)) self ⌝ }
     {
         match self {
             Rank::None => 0,
-            Rank::E => machine_data::cycles(machine, Rank::TIME_E),
-            Rank::D => machine_data::cycles(machine, Rank::TIME_D),
-            Rank::C => machine_data::cycles(machine, Rank::TIME_C),
-            Rank::B => machine_data::cycles(machine, Rank::TIME_B),
+            Rank::E => machine_data::cycles(values, Rank::TIME_E),
+            Rank::D => machine_data::cycles(values, Rank::TIME_D),
+            Rank::C => machine_data::cycles(values, Rank::TIME_C),
+            Rank::B => machine_data::cycles(values, Rank::TIME_B),
             Rank::A => 0,
         }
     }
@@ -116,10 +117,10 @@ impl Stop {
     }
 
     // A stop as a cause enters it.
-    fn entered(machine: &[i32; 51], r: Rank) -> Stop
-        ensures { λ s. ⌜ s ≡ enteredOf (now (machine .entry)) r ⌝ }
+    fn entered(values: &Values, r: Rank) -> Stop
+        ensures { λ s. ⌜ s ≡ enteredOf (now (values .entry)) r ⌝ }
     {
-        Stop::Braking(r, r.time(machine))
+        Stop::Braking(r, r.time(values))
     }
 
     // The count falls by one.
@@ -186,19 +187,19 @@ impl Stop {
     // Step 5 of a cycle.
     pub fn next(
         self,
-        machine: &[i32; 51],
+        values: &Values,
         clears: bool,
         strongest: Rank,
         slow: bool,
         reading: Reading,
     ) -> Stop
-        ensures { λ s. ⌜ s ≡ stopNext (now (machine .entry)) clears strongest slow (reading .position) self ⌝ }
+        ensures { λ s. ⌜ s ≡ stopNext (now (values .entry)) clears strongest slow (reading .position) self ⌝ }
     {
         if clears {
             return Stop::Free;
         }
         if self.rank().number() < strongest.number() {
-            Stop::entered(machine, strongest).settled(slow, reading)
+            Stop::entered(values, strongest).settled(slow, reading)
         } else {
             self.counted().settled(slow, reading)
         }

@@ -17,7 +17,7 @@ cast-tolerance : tie.Need-cast-tolerance
 cast-tolerance c = wide-fits {z = c .datum .result} (record { sfits = c .datum .ok })
 
 read : (c : tie.After-struct-told) → let k = c .before .before .before .before .args in
-    Read (k .machine .now) (k .reading .position) (k .n) (c .before .before .before .cam-edge .result) (c .before .before .datum .result)
+    Read (k .values .now) (k .reading .position) (k .n) (c .before .before .before .cam-edge .result) (c .before .before .datum .result)
 read c =
     record {
       edge-fits = record { sfits = c .before .before .before .cam-edge .ok };

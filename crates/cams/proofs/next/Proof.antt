@@ -12,10 +12,10 @@ use Rattle.cams.proofs.next.Statement.{statement}
 use Rattle.cams.proofs.next.Tie as tie
 
 abbrev Inv-loop : tie.InvT-loop
-Inv-loop machine reading before signals₀ n₀ signals n = (n ≤ 8) × (signals ≡ camsUpTo machine (reading .position) before n)
+Inv-loop values reading before signals₀ n₀ signals n = (n ≤ 8) × (signals ≡ camsUpTo values (reading .position) before n)
 
 abbrev μ-loop : tie.MeasureT-loop
-μ-loop machine reading before signals₀ n₀ signals n = 8 - n
+μ-loop values reading before signals₀ n₀ signals n = 8 - n
 
 loop-holds : tie.Need-loop-holds Inv-loop μ-loop
 unfolding camsUpTo
@@ -35,7 +35,7 @@ shl-signals c = omega arith
 
 add-signals : tie.Need-add-signals Inv-loop μ-loop
 add-signals c = let k = c .before .before .before .before .before .args in let l = c .before .before .before .before .loop in
-    omega (arith, l .inv .1, up-to-low (k .machine .now) (k .reading .position) (k .before) (l .n) (omega arith))
+    omega (arith, l .inv .1, up-to-low (k .values .now) (k .reading .position) (k .before) (l .n) (omega arith))
 
 add-n : tie.Need-add-n Inv-loop μ-loop
 add-n c = omega arith
@@ -45,7 +45,7 @@ loop-less c = omega arith
 
 -- the turn's signal is the code's
 signal-is : (c : tie.After-cam Inv-loop μ-loop) → let k = c .before .before .before .before .args in let n = c .before .before .before .loop .n in
-    camOf (k .machine .now) (k .reading .position) n (bitOf (k .before) n) ≡ c .cam .result
+    camOf (k .values .now) (k .reading .position) n (bitOf (k .before) n) ≡ c .cam .result
 signal-is c = rw (← c .before .bit .ensures) (sym (c .cam .ensures))
 
 loop-again : tie.Need-loop-again Inv-loop μ-loop
@@ -56,14 +56,14 @@ loop-again c =
     let s = signal-is (c .before) in (
       omega arith,
       ⊎-elim
-          (λ w. w .1 ∙ rw (l .inv .1) (turn-on (k .machine .now) (k .reading .position) (k .before) (l .n) h (s ∙ w .0 .taken)))
-          (λ w. w .1 ∙ l .inv .1 ∙ turn-off (k .machine .now) (k .reading .position) (k .before) (l .n) h (s ∙ w .0 .left))
+          (λ w. w .1 ∙ rw (l .inv .1) (turn-on (k .values .now) (k .reading .position) (k .before) (l .n) h (s ∙ w .0 .taken)))
+          (λ w. w .1 ∙ l .inv .1 ∙ turn-off (k .values .now) (k .reading .position) (k .before) (l .n) h (s ∙ w .0 .left))
           (c .if1 .came),
     )
 
 cast-result : tie.Need-cast-result Inv-loop μ-loop
 cast-result c = let k = c .before .before .args in let e : c .before .loop .n ≡ 8 = omega arith in
-    record { fits = rw (c .before .loop .inv .1, e) (cams-small (k .machine .now) (k .reading .position) (k .before)) }
+    record { fits = rw (c .before .loop .inv .1, e) (cams-small (k .values .now) (k .reading .position) (k .before)) }
 
 returns : tie.Need-returns Inv-loop μ-loop
 returns c = let e : c .before .loop .n ≡ 8 = omega arith in c .before .loop .inv .1 ∙ rw e

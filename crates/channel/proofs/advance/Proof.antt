@@ -37,7 +37,7 @@ word-requires-2 c κs = search needs
 
 returns : tie.Need-returns
 unfolding judgedOf
-returns c = let a = c .before .before .before .before .before .before .before .args in let d = now (a .machine) in
+returns c = let a = c .before .before .before .before .before .before .before .args in let d = now (a .values) in
     let u : usableOf (a .given .reading) ≡ true = sym (c .before .before .before .before .before .usable .ensures) ∙ c .before .before .before .before .if1 .taken in
     let j : c .before .before .before .judge .result ≡ judgedOf d (a .state) (a .given) = c .before .before .before .judge .ensures in
     let n : c .before .before .stepped .result ≡ next d (a .state) (a .given) = c .before .before .stepped .ensures ∙ ap (steppedOf d (a .state) (a .given)) j ∙ stepped-next d (a .state) (a .given) u in
@@ -48,7 +48,7 @@ returns c = let a = c .before .before .before .before .before .before .before .a
     }
 
 returns-2 : tie.Need-returns-2
-returns-2 c = let a = c .before .before .before .before .before .args in let d = now (a .machine) in
+returns-2 c = let a = c .before .before .before .before .before .args in let d = now (a .values) in
     let u : usableOf (a .given .reading) ≡ false = sym (c .before .before .before .usable .ensures) ∙ c .before .before .if1 .left in
     let n : c .before .unusable .result ≡ next d (a .state) (a .given) = c .before .unusable .ensures ∙ unusable-next d (a .state) (a .given) u in
     record {

@@ -30,13 +30,13 @@ push-requires c κs = search needs
 
 returns : tie.Need-returns
 unfolding judgedOf usableRows
-returns c = let a = c .before .before .before .before .before .before .args in let d = now (a .machine) in
+returns c = let a = c .before .before .before .before .before .before .args in let d = now (a .values) in
     let u : usableOf (a .given .reading) ≡ true = sym (c .before .before .before .before .usable .ensures) ∙ c .before .before .before .if1 .taken in
     let e = c .causes .ensures ∙ ap (λ (j : Judged). listed (rowsBy (j .found)) noCauses) (c .before .before .judge .ensures) in
     subst (Lists (rowsOf d (a .state) (a .given))) (sym e) (usable-lists d (a .state) (a .given) u)
 
 returns-2 : tie.Need-returns-2
-returns-2 c = let a = c .before .before .before .before .before .args in let d = now (a .machine) in
+returns-2 c = let a = c .before .before .before .before .before .args in let d = now (a .values) in
     let u : usableOf (a .given .reading) ≡ false = sym (c .before .before .before .usable .ensures) ∙ c .before .before .if1 .left in
     subst (Lists (rowsOf d (a .state) (a .given))) (sym (c .push .ensures ∙ ap (pushed 1) (c .before .new .ensures))) (unusable-lists d (a .state) (a .given) u)
 

@@ -10,7 +10,7 @@ step-requires c κs = search needs
 
 returns : tie.Need-returns
 returns c = record {
-  channel = ap (λ (x : State). record { machine = c .before .before .before .before .before .before .before .args .channel .machine; state = x }) (c .before .before .step .ensures .state);
+  channel = ap (λ (x : State). record { list = c .before .before .before .before .before .before .before .args .channel .list; state = x }) (c .before .before .step .ensures .state);
   word-is = c .before .before .step .ensures .word-is;
   causes = c .before .before .step .ensures .causes;
 }

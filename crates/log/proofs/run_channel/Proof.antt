@@ -9,11 +9,11 @@ use Rattle.log.proofs.run_channel.Statement.{statement}
 use Rattle.log.proofs.run_channel.Tie as tie
 
 abbrev Inv-loop : tie.InvT-loop
-Inv-loop other k second words out₀ machine state₀ reported₀ at₀ next₀ out state reported at next =
-    (at ≤ length words) × (length out ≡ length out₀) × Going second (machine .values) other state₀ k words out₀ out state reported at next
+Inv-loop other k second words out₀ list state₀ reported₀ at₀ next₀ out state reported at next =
+    (at ≤ length words) × (length out ≡ length out₀) × Going second (list .values) other state₀ k words out₀ out state reported at next
 
 abbrev μ-loop : tie.MeasureT-loop
-μ-loop other k second words out₀ machine state₀ reported₀ at₀ next₀ out state reported at next = length words - at
+μ-loop other k second words out₀ list state₀ reported₀ at₀ next₀ out state reported at next = length words - at
 
 -- src/lib.rt:78:9
 first-place-requires : tie.Need-first-place-requires Inv-loop μ-loop

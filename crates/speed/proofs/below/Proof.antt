@@ -16,7 +16,7 @@ number-requires-2 : tie.Need-number-requires-2
 number-requires-2 c κs = search needs
 
 mul-result-2 : tie.Need-mul-result-2
-mul-result-2 c = let d = c .before .before .args .machine .now in
+mul-result-2 c = let d = c .before .before .args .values .now in
     rw (c .before .number .ensures, c .number2 .ensures) (product-fits (number-most d _) (number-most d _))
 
 returns : tie.Need-returns

@@ -14,7 +14,7 @@ percent-requires c κs = search needs
 
 mul-result : tie.Need-mul-result
 mul-result c = let s = c .before .before .args in
-    rw (c .before .sg-limit .ensures, c .percent .ensures) (product-fits (number-most (s .machine .now) _) (percent-small (s .machine .now) (s .n) (s .o)))
+    rw (c .before .sg-limit .ensures, c .percent .ensures) (product-fits (number-most (s .values .now) _) (percent-small (s .values .now) (s .n) (s .o)))
 
 returns : tie.Need-returns
 unfolding speedOf

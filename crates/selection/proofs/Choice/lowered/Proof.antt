@@ -12,7 +12,7 @@ same-sg-requires c κs = search needs
 
 returns : tie.Need-returns
 returns c = let a = c .before .before .args in
-    same-no-stricter (now (a .machine)) (a .s) (a .self .effective) (sym (c .before .same-sg .ensures) ∙ c .if1 .taken)
+    same-no-stricter (now (a .values)) (a .s) (a .self .effective) (sym (c .before .same-sg .ensures) ∙ c .if1 .taken)
 
 allowance-requires : tie.Need-allowance-requires
 allowance-requires c κs = search needs

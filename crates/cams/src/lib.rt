@@ -3,13 +3,14 @@ ghost use mathlib.Core.Path.{_≡_};
 ghost use Rattle.cams.specs.Cams.{camOf, camsUpTo, camsNext};
 use inputs::Reading;
 use machine_data::Values;
+use machine_data::numbers;
 
 // The signal of cam n, in data order: 1 above the edge and its tolerance, 0 below the edge, else as before.
 fn cam(values: &Values, reading: Reading, n: usize, before: bool) -> bool
     ensures { λ r. ⌜ r ≡ camOf (now (values .entry)) (reading .position) n before ⌝ }
 {
     let edge = machine_data::cam_edge(values, n) as i64;
-    let tolerance = machine_data::datum(values, 24) as i64;
+    let tolerance = machine_data::datum(values, numbers::CAM_TOLERANCE) as i64;
     let position = reading.position as i64;
     if edge + tolerance < position {
         return true;

@@ -1,4 +1,3 @@
-pub mod Causes
 pub mod Cycle
 pub mod Word
 pub mod Ensures

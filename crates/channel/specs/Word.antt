@@ -1,20 +1,32 @@
 -- The channel word of a cycle: document 01, "Channel word".
 use Prim.Native.Nat.{ℕ}
-use mathlib.Core.Bool.{Bool, _&&_}
+use mathlib.Core.Bool.{Bool, false, _&&_}
 use mathlib.Core.List.{List}
 use lib.IntN.{ℤ}
-use Rattle.inputs.specs.Inputs.{usableOf}
+use Rattle.machine_data.specs.declared.MachineData.{MachineData}
+use Rattle.inputs.specs.Usable.{usableOf}
 use Rattle.speed.specs.Speed.{slower}
 use Rattle.channel_word.specs.Word.{wordBy}
-use Rattle.channel.specs.declared.State.{State}
-use Rattle.channel.specs.declared.Given.{Given}
-use Rattle.channel.specs.Causes.{movedOf}
-use Rattle.channel.specs.Cycle.{next}
+use Rattle.state.specs.declared.State.{State}
+use Rattle.state.specs.declared.Given.{Given}
+use Rattle.judge.specs.declared.Findings.{Findings}
+use Rattle.judge.specs.Causes.{movedIn}
+use Rattle.channel.specs.declared.Advanced.{Advanced}
+use Rattle.channel.specs.Cycle.{next, unusableNext, nextBy}
 
 -- the word of a state
-abbrev pub wordOf : List ℤ → State → Bool → ℕ
-wordOf d s slow = wordBy d (s .choice .effective) (s .stop) (s .fault .on) (s .cams) slow
+abbrev pub shownWord : List ℤ → State → Bool → ℕ
+shownWord d s slow = wordBy d (s .kept .choice .effective) (s .stop) (s .kept .fault .on) (s .kept .cams) slow
 
 -- the word of a cycle; "n<nx: |d| × 60 < datum 25 × T"; "n<nx shows 0 in an unusable cycle"
-unfoldable pub word : List ℤ → State → Given → ℕ
-word d s g = wordOf d (next d s g) (usableOf (g .reading) && slower d (movedOf (s .previous) (g .reading .position)) 25)
+unfoldable pub word : MachineData → State → Given → ℕ
+word m s g = shownWord (m .values) (next m s g) (usableOf m (g .reading) && slower (m .values) (movedIn s g) 25)
+
+-- ---- of the private functions: state and word, from what the code found
+
+abbrev pub advancedBy : MachineData → State → Given → Findings → Advanced
+advancedBy m s g f =
+    record { state = nextBy m s g f; word = shownWord (m .values) (nextBy m s g f) (slower (m .values) (f .moved) 25) }
+
+abbrev pub advancedUnusable : MachineData → State → Advanced
+advancedUnusable m s = record { state = unusableNext (m .count) s; word = shownWord (m .values) (unusableNext (m .count) s) false }

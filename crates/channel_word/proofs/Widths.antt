@@ -3,9 +3,9 @@ use mathlib.Core.Bool.{Bool, true, false}
 use Prim.Native.Nat.{_≤_}
 use native.Mathlib.Omega.{arith}
 use Rattle.bits.specs.Bits.{flag}
-use Rattle.stop.specs.declared.Rank.{Rank}
-use Rattle.stop.specs.declared.Rank.the-variants.{None, E, D, C, B, A}
-use Rattle.stop.specs.Stop.{rankNumber}
+use Rattle.rank.specs.declared.Rank.{Rank}
+use Rattle.rank.specs.Rank.{rankNumber}
+use Rattle.rank.proofs.Laws.{rank-le}
 use Rattle.selection.specs.declared.Selection.{Selection}
 use Rattle.selection.specs.declared.Selection.the-variants.{Nothing, Sg, Sbh}
 use Rattle.channel_word.specs.Word.{shownSg, Parts}
@@ -13,14 +13,6 @@ use Rattle.channel_word.specs.Word.{shownSg, Parts}
 pub flag-le : (b : Bool) → flag b ≤ 1
 flag-le true = omega arith
 flag-le false = omega arith
-
-pub rank-le : (r : Rank) → rankNumber r ≤ 5
-rank-le None = omega arith
-rank-le E = omega arith
-rank-le D = omega arith
-rank-le C = omega arith
-rank-le B = omega arith
-rank-le A = omega arith
 
 pub sg-le : (s : Selection) → shownSg s ≤ 3
 sg-le Nothing = omega arith

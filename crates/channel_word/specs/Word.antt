@@ -10,7 +10,8 @@ use Rattle.selection.specs.declared.Selection.{Selection}
 use Rattle.selection.specs.declared.Selection.the-variants.{Nothing, Sg, Sbh}
 use Rattle.stop.specs.declared.Stop.{Stop}
 use Rattle.stop.specs.declared.Stop.the-variants.{Free, Braking, Held, Cancelled}
-use Rattle.stop.specs.Stop.{rankNumber, rankOf}
+use Rattle.rank.specs.Rank.{rankNumber}
+use Rattle.stop.specs.Stop.{rankOf}
 
 -- "bit 0 SBH or SG effective"
 abbrev pub isEffective : Selection → Bool

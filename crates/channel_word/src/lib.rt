@@ -3,6 +3,8 @@ ghost use mathlib.Core.Path.{_≡_};
 ghost use Rattle.bits.specs.Bits.{flag};
 ghost use Rattle.channel_word.specs.Word.{isEffective, shownSg, isHeld, shownCams, shownSlow, placed, Parts, wordBy};
 use machine_data::Values;
+use machine_data::functions;
+use rank::Rank;
 use selection::Selection;
 use stop::Stop;
 
@@ -47,7 +49,7 @@ fn is_held(s: Stop) -> bool
 fn shown_cams(values: &Values, cams: u8) -> u8
     ensures { λ r. ⌜ r ≡ shownCams (now (values .entry)) cams ⌝ }
 {
-    if machine_data::function(values, 2) {
+    if machine_data::function(values, functions::CAMS) {
         cams
     } else {
         0
@@ -58,15 +60,15 @@ fn shown_cams(values: &Values, cams: u8) -> u8
 fn shown_slow(values: &Values, slow: bool) -> bool
     ensures { λ r. ⌜ r ≡ shownSlow (now (values .entry)) slow ⌝ }
 {
-    if machine_data::function(values, 3) {
+    if machine_data::function(values, functions::NX) {
         slow
     } else {
         false
     }
 }
 
-// The parts at their places.
-fn placed(
+// The parts of a word, as numbers.
+struct WordParts {
     effective: u8,
     cancelled: u8,
     cams: u8,
@@ -75,13 +77,18 @@ fn placed(
     rank: u8,
     held: u8,
     fault: u8,
-) -> u32
-    requires { ⌜ Parts effective cancelled sg slow rank held fault ⌝ }
-    ensures { λ r. ⌜ r ≡ placed effective cancelled cams sg slow rank held fault ⌝ }
+}
+
+// The parts at their places.
+fn placed(p: WordParts) -> u32
+    requires { ⌜ Parts (p .effective) (p .cancelled) (p .sg) (p .slow) (p .rank) (p .held) (p .fault) ⌝ }
+    ensures { λ r. ⌜ r ≡ placed (p .effective) (p .cancelled) (p .cams) (p .sg) (p .slow) (p .rank) (p .held) (p .fault) ⌝ }
 {
-    let low = (effective as u32) + 4 * (cancelled as u32) + 128 + 256 * (cams as u32);
-    let middle = 524288 * (sg as u32) + 2097152 * (slow as u32);
-    let high = 16777216 * (rank as u32) + 134217728 * (held as u32) + 268435456 * (fault as u32);
+    let low = (p.effective as u32) + 4 * (p.cancelled as u32) + 128 + 256 * (p.cams as u32);
+    let middle = 524288 * (p.sg as u32) + 2097152 * (p.slow as u32);
+    let high = 16777216 * (p.rank as u32)
+        + 134217728 * (p.held as u32)
+        + 268435456 * (p.fault as u32);
     low + middle + high
 }
 
@@ -97,14 +104,14 @@ pub fn channel_word(
     ensures { λ r. ⌜ r ≡ wordBy (now (values .entry)) effective stop fault cams slow ⌝ }
 {
     let rank = stop.rank().number();
-    placed(
-        flag(is_effective(effective)),
-        flag(rank == 5),
-        shown_cams(values, cams),
-        shown_sg(effective),
-        flag(shown_slow(values, slow)),
+    placed(WordParts {
+        effective: flag(is_effective(effective)),
+        cancelled: flag(rank == Rank::NUMBER_A),
+        cams: shown_cams(values, cams),
+        sg: shown_sg(effective),
+        slow: flag(shown_slow(values, slow)),
         rank,
-        flag(is_held(stop)),
-        flag(fault),
-    )
+        held: flag(is_held(stop)),
+        fault: flag(fault),
+    })
 }

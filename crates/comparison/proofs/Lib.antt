@@ -1,2 +1,1 @@
-pub mod Differs
 pub mod Faults

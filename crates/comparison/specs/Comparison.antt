@@ -1,12 +1,12 @@
--- Causes 10 to 13, and F: document 01, step 4.
+-- Causes 10, 11 and 13, and F: document 01, step 4.
 use Prim.Native.Nat.{ℕ, _+_, _-_, min}
-use mathlib.Core.Bool.{Bool, true, cond, _&&_}
+use mathlib.Core.Bool.{Bool, true, false, cond, _&&_}
 use mathlib.Core.List.{List}
 use lib.IntN.{ℤ, natAbs, _-ℤ_}
 use lib.Dec.{ltb, eqb}
-use Rattle.machine_data.specs.Data.{numberOf, entryOf}
+use Rattle.machine_data.specs.Data.{numberOf}
 use Rattle.inputs.specs.declared.Reading.{Reading}
-use Rattle.inputs.specs.declared.Report.{Report}
+use Rattle.report.specs.declared.Report.{Report}
 use Rattle.comparison.specs.declared.Fault.{Fault}
 
 -- "10 position differs from the report by more than datum 26"
@@ -21,10 +21,6 @@ runOf before r o = cond (eqb (r .inputs) (o .inputs)) 0 (min (before + 1) 1001)
 unfoldable pub inputsDiffer : List ℤ → ℕ → Bool
 inputsDiffer d run = ltb (numberOf d 28) run
 
--- "12 datum k differs": the difference is not 0
-unfoldable pub datumDiffers : List ℤ → ℕ → Report → Bool
-datumDiffers d k o = ltb 0 (natAbs (entryOf d k -ℤ o .datum))
-
 -- "10, 11, 12 set F and, if F is new, its count to datum 34; the count falls in later usable cycles"
 unfoldable pub faultNext : List ℤ → Bool → Fault → Fault
 faultNext d differs f =
@@ -34,3 +30,7 @@ faultNext d differs f =
 -- "at 0, with F on, stands cause 13"
 unfoldable pub expired : Fault → Bool
 expired f = f .on && eqb (f .left) 0
+
+-- "rank 0, not held, F off" in a cycle that clears
+abbrev pub clearedFault : Bool → Fault → Fault
+clearedFault clears f = cond clears (record { on = false; left = 0 }) f

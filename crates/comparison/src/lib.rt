@@ -1,12 +1,13 @@
-// The crosswise comparison of the channels, causes 10 to 13: what differs, and F with its time to B.
+// The crosswise comparison of the channels, causes 10, 11 and 13: what differs, and F with its time to B. Cause 12 stands in report.
 ghost use mathlib.Core.Path.{_≡_};
 ghost use mathlib.Core.Bool.{cond};
 ghost use Prim.Native.Nat.{_-_};
 ghost use Rattle.machine_data.specs.Data.{numberOf};
-ghost use Rattle.comparison.specs.Comparison.{positionDiffers, runOf, inputsDiffer, datumDiffers, faultNext, expired};
+ghost use Rattle.comparison.specs.Comparison.{positionDiffers, runOf, inputsDiffer, faultNext, expired, clearedFault};
 use inputs::Reading;
-use inputs::Report;
 use machine_data::Values;
+use machine_data::numbers;
+use report::Report;
 
 // F, and the cycles left to cause 13.
 pub struct Fault {
@@ -18,7 +19,7 @@ pub struct Fault {
 pub fn position_differs(values: &Values, reading: Reading, report: Report) -> bool
     ensures { λ r. ⌜ r ≡ positionDiffers (now (values .entry)) reading report ⌝ }
 {
-    machine_data::number(values, 26)
+    machine_data::number(values, numbers::ALLOWED_DIFFERENCE)
         < (distance::distance(reading.position, report.position) as u64)
 }
 
@@ -36,14 +37,7 @@ pub fn run(before: u32, reading: Reading, report: Report) -> u32
 pub fn inputs_differ(values: &Values, run: u32) -> bool
     ensures { λ r. ⌜ r ≡ inputsDiffer (now (values .entry)) run ⌝ }
 {
-    machine_data::cycles(values, 28) < run
-}
-
-// Cause 12.
-pub fn datum_differs(values: &Values, k: usize, report: Report) -> bool
-    ensures { λ r. ⌜ r ≡ datumDiffers (now (values .entry)) k report ⌝ }
-{
-    machine_data::entry(values, k) != report.datum
+    machine_data::cycles(values, numbers::ALLOWED_INPUT_DIFFERENCE) < run
 }
 
 impl Fault {
@@ -53,7 +47,7 @@ impl Fault {
     {
         let left = self.left;
         if new {
-            machine_data::cycles(values, 34)
+            machine_data::cycles(values, numbers::TIME_F)
         } else if left == 0 {
             0
         } else {
@@ -77,6 +71,17 @@ impl Fault {
             }
         } else {
             Fault { on: false, left: 0 }
+        }
+    }
+
+    // F off in a cycle that clears.
+    pub fn cleared(self, clears: bool) -> Fault
+        ensures { λ r. ⌜ r ≡ clearedFault clears self ⌝ }
+    {
+        if clears {
+            Fault { on: false, left: 0 }
+        } else {
+            self
         }
     }
 

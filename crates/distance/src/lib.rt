@@ -1,6 +1,13 @@
 // Steps and distances of positions, on either side of zero.
 ghost use mathlib.Core.Path.{_≡_};
 ghost use lib.IntN.{_-ℤ_, natAbs};
+ghost use Rattle.distance.specs.Step.{stepFrom, movedFrom};
+
+// The position of the cycle before, where there is one.
+pub enum Previous {
+    Absent,
+    At(i32),
+}
 
 // The signed step from b to a.
 pub fn step(a: i32, b: i32) -> i64
@@ -27,4 +34,26 @@ pub fn distance(a: i32, b: i32) -> u32
     ensures { λ r. ⌜ r ≡ natAbs (a -ℤ b) ⌝ }
 {
     magnitude(step(a, b)) as u32
+}
+
+impl Previous {
+    // d: the signed step to a position, 0 if there is no previous one.
+    pub fn step_to(self, position: i32) -> i64
+        ensures { λ r. ⌜ r ≡ stepFrom self position ⌝ }
+    {
+        match self {
+            Previous::Absent => 0,
+            Previous::At(p) => step(position, p),
+        }
+    }
+
+    // |d|.
+    pub fn moved_to(self, position: i32) -> u32
+        ensures { λ r. ⌜ r ≡ movedFrom self position ⌝ }
+    {
+        match self {
+            Previous::Absent => 0,
+            Previous::At(p) => distance(position, p),
+        }
+    }
 }

@@ -1,7 +1,10 @@
-// What a channel is given in a cycle, and whether it can be used.
+// The input word by its fields, and whether what a channel is given in a cycle can be used.
 ghost use mathlib.Core.Path.{_≡_};
 ghost use lib.Dec.{eqb};
-ghost use Rattle.inputs.specs.Inputs.{spareOf, usableOf};
+ghost use Rattle.machine_data.specs.Data.{lent};
+ghost use Rattle.inputs.specs.Layout.{sbhSgOff, sbhOff, sgNumber, se2Chosen, externalOff, overrideNumber, spareOf};
+ghost use Rattle.inputs.specs.Usable.{usableOf};
+use machine_data::Values;
 
 // A channel's own position and input word.
 pub struct Reading {
@@ -9,11 +12,54 @@ pub struct Reading {
     pub inputs: u32,
 }
 
-// The other channel's position, input word and datum k.
-pub struct Report {
-    pub position: i32,
-    pub inputs: u32,
-    pub datum: i32,
+// The external stops, by the rank of each.
+pub enum External {
+    A,
+    C,
+    D,
+    E,
+}
+
+pub fn sbh_sg_off(w: u32) -> bool
+    ensures { λ r. ⌜ r ≡ sbhSgOff w ⌝ }
+{
+    bits::bit(w, 0)
+}
+
+pub fn sbh_off(w: u32) -> bool
+    ensures { λ r. ⌜ r ≡ sbhOff w ⌝ }
+{
+    bits::bit(w, 1)
+}
+
+// The SG's number less one.
+pub fn sg_number(w: u32) -> u8
+    ensures { λ r. ⌜ r ≡ sgNumber w ⌝ }
+{
+    (w / 8 % 4) as u8
+}
+
+pub fn se2_chosen(w: u32) -> bool
+    ensures { λ r. ⌜ r ≡ se2Chosen w ⌝ }
+{
+    bits::bit(w, 12)
+}
+
+pub fn external_off(w: u32, stop: External) -> bool
+    ensures { λ r. ⌜ r ≡ externalOff w stop ⌝ }
+{
+    match stop {
+        External::A => bits::bit(w, 18),
+        External::C => bits::bit(w, 19),
+        External::D => bits::bit(w, 20),
+        External::E => bits::bit(w, 21),
+    }
+}
+
+pub fn override_number(w: u32) -> u8
+    ensures { λ r. ⌜ r ≡ overrideNumber w ⌝ }
+{
+    (w / 268435456) as u8
 }
 
 // Whether the bits of an input word that no safe input has are 0, one group after the other: they come to one test.
@@ -32,8 +78,10 @@ fn spare_off(w: u32) -> bool
     w / 4194304 % 64 == 0
 }
 
-pub fn usable(reading: Reading) -> bool
-    ensures { λ r. ⌜ r ≡ usableOf reading ⌝ }
+// Whether a channel with a list can use a reading. Which input bits may be set is a matter of the list; so far every list
+// allows the same.
+pub fn usable(values: &Values, count: usize, reading: Reading) -> bool
+    ensures { λ r. ⌜ r ≡ usableOf (lent (now (values .entry)) count) reading ⌝ }
 {
     if 100000000 < distance::magnitude(reading.position as i64) {
         return false;

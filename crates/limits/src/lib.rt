@@ -1,24 +1,29 @@
-// Causes 2 to 9: whether each stands, and the rank of SG's stop.
+// Causes 2 to 9: whether each stands, and the ranks that data give.
 ghost use mathlib.Core.Path.{_≡_};
 ghost use Prim.Native.Nat.{_<_};
-ghost use Rattle.limits.specs.Limits.{standstill, overSpeed, sgRank, beyond, outside, external, slipped};
+ghost use Rattle.machine_data.specs.Table.{dataCount};
+ghost use Rattle.limits.specs.Limits.{standstillLeft, overSpeed, sgRank, beyond, outside, seRank, external, holdLeft};
+use inputs::External;
 use inputs::Reading;
 use machine_data::Values;
+use machine_data::functions;
+use machine_data::numbers;
+use rank::Rank;
 use selection::Choice;
 use selection::Selection;
-use stop::Rank;
+use speed::Sg;
 use stop::Stop;
 
 // Cause 2.
-pub fn standstill(values: &Values, choice: Choice, reading: Reading) -> bool
-    ensures { λ r. ⌜ r ≡ standstill (now (values .entry)) choice (reading .position) ⌝ }
+pub fn standstill_left(values: &Values, choice: Choice, reading: Reading) -> bool
+    ensures { λ r. ⌜ r ≡ standstillLeft (now (values .entry)) choice (reading .position) ⌝ }
 {
     let s = choice.effective;
     match s {
         Selection::Nothing => false,
         Selection::Sg(_, _) => false,
         Selection::Sbh => {
-            machine_data::number(values, 2)
+            machine_data::number(values, numbers::STANDSTILL_TOLERANCE)
                 < (distance::distance(reading.position, choice.reference) as u64)
         }
     }
@@ -30,11 +35,12 @@ pub fn over_speed(values: &Values, effective: Selection, moved: u32) -> bool
 {
     match effective {
         Selection::Nothing => false,
-        Selection::Sg(n, o) => speed::too_fast(values, moved, n, o),
+        Selection::Sg(number, over) => speed::too_fast(values, moved, Sg { number, over }),
         Selection::Sbh => false,
     }
 }
 
+// The rank of cause 3.
 pub fn sg_rank(values: &Values, effective: Selection) -> Rank
     ensures { λ r. ⌜ r ≡ sgRank (now (values .entry)) effective ⌝ }
 {
@@ -47,7 +53,7 @@ pub fn sg_rank(values: &Values, effective: Selection) -> Rank
 
 // Whether a position lies outside the SE whose minus is datum k.
 fn beyond(values: &Values, reading: Reading, k: usize) -> bool
-    requires { ⌜ k < 50 ⌝ }
+    requires { ⌜ k < dataCount ⌝ }
     ensures { λ r. ⌜ r ≡ beyond (now (values .entry)) (reading .position) k ⌝ }
 {
     if reading.position < machine_data::datum(values, k) {
@@ -60,32 +66,40 @@ fn beyond(values: &Values, reading: Reading, k: usize) -> bool
 pub fn outside(values: &Values, reading: Reading) -> bool
     ensures { λ r. ⌜ r ≡ outside (now (values .entry)) reading ⌝ }
 {
-    if machine_data::function(values, 1) {
-        if bits::bit(reading.inputs, 12) {
-            beyond(values, reading, 13)
+    if machine_data::function(values, functions::SE) {
+        if inputs::se2_chosen(reading.inputs) {
+            beyond(values, reading, numbers::SE2_MINUS)
         } else {
-            beyond(values, reading, 11)
+            beyond(values, reading, numbers::SE1_MINUS)
         }
     } else {
         false
     }
 }
 
-// Causes 5 to 8: the external stop of an input bit.
-pub fn external(values: &Values, reading: Reading, n: u32) -> bool
-    ensures { λ r. ⌜ r ≡ external (now (values .entry)) (reading .inputs) n ⌝ }
+// The rank of cause 4.
+pub fn se_rank(values: &Values) -> Rank
+    ensures { λ r. ⌜ r ≡ seRank (now (values .entry)) ⌝ }
 {
-    machine_data::function(values, 4) && !bits::bit(reading.inputs, n)
+    Rank::from_number(machine_data::number(values, numbers::SE_STOP))
+}
+
+// Causes 5 to 8.
+pub fn external(values: &Values, reading: Reading, stop: External) -> bool
+    ensures { λ r. ⌜ r ≡ external (now (values .entry)) (reading .inputs) stop ⌝ }
+{
+    machine_data::function(values, functions::EXTERNAL_STOPS)
+        && !inputs::external_off(reading.inputs, stop)
 }
 
 // Cause 9.
-pub fn slipped(values: &Values, stop: Stop, reading: Reading) -> bool
-    ensures { λ r. ⌜ r ≡ slipped (now (values .entry)) stop (reading .position) ⌝ }
+pub fn hold_left(values: &Values, stop: Stop, reading: Reading) -> bool
+    ensures { λ r. ⌜ r ≡ holdLeft (now (values .entry)) stop (reading .position) ⌝ }
 {
     match stop {
         Stop::Free => false,
         Stop::Braking(_, _) => false,
-        Stop::Held(_, p) => machine_data::number(values, 2)
+        Stop::Held(_, p) => machine_data::number(values, numbers::STANDSTILL_TOLERANCE)
             < (distance::distance(reading.position, p) as u64),
         Stop::Cancelled => false,
     }

@@ -13,9 +13,10 @@ use lib.IntN.{ℤ}
 use Rattle.machine_data.specs.Data.{numberOf}
 use Rattle.inputs.specs.Inputs.{usableOf}
 use Rattle.speed.specs.Speed.{slower}
-use Rattle.stop.specs.declared.Rank.{Rank}
-use Rattle.stop.specs.declared.Rank.the-variants.{None, A}
-use Rattle.stop.specs.Stop.{rankNumber, levelOf, outranks, WellFormed}
+use Rattle.rank.specs.declared.Rank.{Rank}
+use Rattle.rank.specs.declared.Rank.the-variants.{None, A}
+use Rattle.rank.specs.Rank.{rankNumber}
+use Rattle.stop.specs.Stop.{levelOf, outranks, WellFormed}
 use Rattle.stop.proofs.Laws.{cause-met, kept}
 use Rattle.comparison.specs.Comparison.{positionDiffers, inputsDiffer, datumDiffers, expired}
 use Rattle.causes.specs.declared.Cause.{Cause}

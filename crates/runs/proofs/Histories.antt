@@ -9,8 +9,9 @@ use native.Mathlib.Omega.{arith}
 use lib.Dec.{T}
 use lib.IntN.{ℤ}
 use Rattle.machine_data.specs.Data.{numberOf}
-use Rattle.stop.specs.declared.Rank.{Rank}
-use Rattle.stop.specs.Stop.{rankNumber, timeOf, rankOf}
+use Rattle.rank.specs.declared.Rank.{Rank}
+use Rattle.rank.specs.Rank.{rankNumber, timeOf}
+use Rattle.stop.specs.Stop.{rankOf}
 use Rattle.channel.specs.declared.State.{State}
 use Rattle.channel.specs.declared.Given.{Given}
 use Rattle.channel.specs.Cycle.{strongestIn, clearsIn}

@@ -7,9 +7,9 @@ use mathlib.Core.Path.{_≡_, refl, sym, _∙_}
 use native.Mathlib.Omega.{arith}
 use borrow.Author.Tests.{eqb-true, ne-eqb}
 use lib.Dec.{T, eqb}
-use Rattle.stop.specs.declared.Rank.the-variants.{None}
-use Rattle.stop.specs.Stop.{rankNumber}
-use Rattle.stop.proofs.Laws.{stronger-max}
+use Rattle.rank.specs.declared.Rank.the-variants.{None}
+use Rattle.rank.specs.Rank.{rankNumber}
+use Rattle.rank.proofs.Laws.{stronger-max}
 use Rattle.causes.specs.declared.Cause.{Cause}
 use Rattle.causes.specs.Causes.{isFresh, strongestOf, freshOf}
 use Rattle.runs.specs.Demand3.{causeOf}

@@ -6,10 +6,10 @@ use native.Mathlib.Omega.{arith}
 use lib.IntN.{ℤ}
 use Rattle.machine_data.specs.Data.{numberOf}
 use Rattle.machine_data.proofs.Stands.{number-high}
-use Rattle.stop.specs.declared.Rank.{Rank}
-use Rattle.stop.specs.declared.Rank.the-variants.{None, E, D, C, B, A}
-use Rattle.stop.specs.Stop.{rankNumber, timeOf}
-use Rattle.stop.proofs.Laws.{number-injective}
+use Rattle.rank.specs.declared.Rank.{Rank}
+use Rattle.rank.specs.declared.Rank.the-variants.{None, E, D, C, B, A}
+use Rattle.rank.specs.Rank.{rankNumber, timeOf}
+use Rattle.rank.proofs.Laws.{number-injective}
 
 pub rank-most : (r : Rank) → rankNumber r ≤ 5
 rank-most None = omega arith

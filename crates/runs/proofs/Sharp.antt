@@ -14,8 +14,8 @@ use Rattle.speed.specs.Speed
 use Rattle.selection.specs.Selection
 use Rattle.selection.specs.declared.Selection.the-variants.{Nothing, Sbh}
 use Rattle.stop.specs.Stop
-use Rattle.stop.specs.Stop.{timeOf}
-use Rattle.stop.specs.declared.Rank.the-variants.{C}
+use Rattle.rank.specs.Rank.{timeOf}
+use Rattle.rank.specs.declared.Rank.the-variants.{C}
 use Rattle.comparison.specs.Comparison
 use Rattle.cams.specs.Cams
 use Rattle.causes.specs.Causes as Tally

@@ -10,11 +10,12 @@ use native.Mathlib.Omega.{arith}
 use borrow.Author.Tests.{ltb-true, lt-ltb}
 use lib.Dec.{T, eqb}
 use lib.IntN.{ℤ}
-use Rattle.stop.specs.declared.Rank.{Rank}
-use Rattle.stop.specs.declared.Rank.the-variants.{None, E, D, C, B, A}
+use Rattle.rank.specs.declared.Rank.{Rank}
+use Rattle.rank.specs.declared.Rank.the-variants.{None, E, D, C, B, A}
 use Rattle.stop.specs.declared.Stop.{Stop}
 use Rattle.stop.specs.declared.Stop.the-variants.{Free, Braking, Held, Cancelled}
-use Rattle.stop.specs.Stop.{rankNumber, timeOf, rankOf, levelOf, outranks, enteredOf, countedOf, endsOf, heldAt, atCount, settledOf, stopNext, WellFormed}
+use Rattle.rank.specs.Rank.{rankNumber, timeOf}
+use Rattle.stop.specs.Stop.{rankOf, levelOf, outranks, enteredOf, countedOf, endsOf, heldAt, atCount, settledOf, stopNext, WellFormed}
 use Rattle.stop.proofs.Laws.{never-weaker, cause-met, kept}
 use Rattle.channel_word.specs.Word.{isHeld}
 use Rattle.runs.proofs.Tests.{if-case}

@@ -44,9 +44,9 @@ use Rattle.inputs.specs.Inputs.{usableOf}
 use Rattle.selection.specs.declared.Selection.{Selection}
 use Rattle.selection.specs.declared.Selection.the-variants.{Nothing, Sg, Sbh}
 use Rattle.selection.specs.Selection.{stricter}
-use Rattle.stop.specs.declared.Rank.{Rank}
-use Rattle.stop.specs.declared.Rank.the-variants.{None}
-use Rattle.stop.specs.Stop.{rankNumber, timeOf}
+use Rattle.rank.specs.declared.Rank.{Rank}
+use Rattle.rank.specs.declared.Rank.the-variants.{None}
+use Rattle.rank.specs.Rank.{rankNumber, timeOf}
 use Rattle.causes.specs.declared.Cause.{Cause}
 use Rattle.channel.specs.declared.Given.{Given}
 use Rattle.causes.specs.Table.{cause}

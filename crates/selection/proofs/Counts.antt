@@ -7,9 +7,9 @@ use native.Mathlib.Omega.{arith}
 use lib.IntN.{ℤ}
 use Rattle.selection.specs.declared.Selection.{Selection}
 use Rattle.selection.specs.declared.Choice.{Choice}
-use Rattle.selection.specs.Selection.{countOf, waitedOf}
+use Rattle.selection.specs.Selection.{delayCount, waitedOf}
 
-pub falls : (d : List ℤ) (left : ℕ) → (left ≡ 0 → ⊥) → left - 1 ≡ countOf d left
+pub falls : (d : List ℤ) (left : ℕ) → (left ≡ 0 → ⊥) → left - 1 ≡ delayCount d left
 falls d zero h = absurd (h refl)
 falls d (suc n) h = omega arith
 

@@ -1,26 +1,18 @@
 -- Of two selections that are the same SG with the same override neither is the stricter. Assumes nothing.
-use mathlib.Core.Path.{_≡_, refl, sym}
-use mathlib.Core.Bool.{Bool, true, false, _&&_}
+use mathlib.Core.Path.{_≡_, sym}
+use mathlib.Core.Bool.{true, false}
 use mathlib.Core.List.{List}
 use Prim.Native.Nat.{ℕ}
 use native.Mathlib.Omega.{arith}
 use lib.IntN.{ℤ}
 use lib.Dec.{ltb, eqb}
 use borrow.Author.Tests.{le-ltb, eqb-true}
+use Rattle.laws.proofs.Never.{never}
+use Rattle.laws.proofs.Bools.{both}
 use Rattle.speed.specs.Speed.{speedOf}
 use Rattle.selection.specs.declared.Selection.{Selection}
 use Rattle.selection.specs.declared.Selection.the-variants.{Nothing, Sg, Sbh}
 use Rattle.selection.specs.Selection.{stricter, sameSg}
-
-never : {X : Type 0} → _≡_ {A = ℕ} 0 1 → X
-never z = absurd (go z)
-  where
-    go : _≡_ {A = ℕ} 0 1 → ⊥
-    go y = omega arith
-
-both : (a b : Bool) → a && b ≡ true → (a ≡ true) × (b ≡ true)
-both true b e = (refl, e)
-both false b e = never (cc)
 
 equal : (x y : ℕ) → x ≡ y → ltb x y ≡ false
 equal x y e = le-ltb x y (omega (arith, e))

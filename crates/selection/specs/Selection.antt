@@ -4,19 +4,17 @@ use mathlib.Core.Bool.{Bool, true, false, not, cond, _&&_, _||_}
 use mathlib.Core.List.{List}
 use lib.IntN.{ℤ}
 use lib.Dec.{ltb, eqb}
-use Rattle.bits.specs.Bits.{bitOf, fieldOf}
 use Rattle.machine_data.specs.Data.{numberOf, functionOf}
+use Rattle.inputs.specs.Layout.{sbhSgOff, sbhOff, sgNumber, overrideNumber}
 use Rattle.speed.specs.Speed.{speedOf}
 use Rattle.selection.specs.declared.Selection.{Selection}
 use Rattle.selection.specs.declared.Selection.the-variants.{Nothing, Sg, Sbh}
 use Rattle.selection.specs.declared.Choice.{Choice}
 
--- "Selected: nothing if function 0 is off or input bit 0 is 1; else SBH if bit 1 is 0; else that SG"; input bits "3-4 SG number less one", "28-31 override";
--- "A selection of an SG is its number with its override number"
+-- "Selected: nothing if function 0 is off or input bit 0 is 1; else SBH if bit 1 is 0; else that SG"; "A selection of an SG is its number with its override number"
 unfoldable pub selectedOf : List ℤ → ℕ → Selection
 selectedOf d w =
-    cond (not (functionOf d 0) || bitOf w 0) Nothing
-    (cond (not (bitOf w 1)) Sbh (Sg (fieldOf w 3 4) (fieldOf w 28 16)))
+    cond (not (functionOf d 0) || sbhSgOff w) Nothing (cond (not (sbhOff w)) Sbh (Sg (sgNumber w) (overrideNumber w)))
 
 -- "Order: nothing, SG by limit × percent, SBH strictest", as one number: the less is allowed, the stricter. Nothing is one above the greatest
 -- limit × percent, 1,000,000 × 100
@@ -54,9 +52,9 @@ abbrev pub boundOf : Choice → Selection → ℤ → Choice
 boundOf x s position = record { chosen = true; effective = s; reference = referenceOf x s position; left = 0 }
 
 -- "A stricter one sets a count to datum 27; the count falls in later usable cycles and is not set anew by a further lowering"
-abbrev pub countOf : List ℤ → ℕ → ℕ
-countOf d zero = numberOf d 27
-countOf d (suc n) = n
+abbrev pub delayCount : List ℤ → ℕ → ℕ
+delayCount d zero = numberOf d 27
+delayCount d (suc n) = n
 
 -- "at 0 the present selection becomes effective"
 abbrev pub waitedOf : Choice → Selection → ℤ → ℕ → Choice
@@ -66,4 +64,4 @@ waitedOf x s position (suc n) = record { chosen = true; effective = x .effective
 -- "The first usable selection becomes effective immediately, as does a later one that is no stricter"
 unfoldable pub choiceNext : List ℤ → Choice → Selection → ℤ → Choice
 choiceNext d x s position =
-    cond (x .chosen && stricter d s (x .effective)) (waitedOf x s position (countOf d (x .left))) (boundOf x s position)
+    cond (x .chosen && stricter d s (x .effective)) (waitedOf x s position (delayCount d (x .left))) (boundOf x s position)

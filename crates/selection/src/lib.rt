@@ -1,8 +1,11 @@
 // Step 3 of a cycle: what is selected, and what is effective.
 ghost use mathlib.Core.Path.{_≡_};
-ghost use Rattle.selection.specs.Selection.{selectedOf, allowanceOf, stricter, isSg, sameSg, isSbh, referenceOf, boundOf, countOf, waitedOf, choiceNext};
+ghost use Rattle.selection.specs.Selection.{selectedOf, allowanceOf, stricter, isSg, sameSg, isSbh, referenceOf, boundOf, delayCount, waitedOf, choiceNext};
 use inputs::Reading;
 use machine_data::Values;
+use machine_data::functions;
+use machine_data::numbers;
+use speed::Sg;
 
 pub enum Selection {
     Nothing,
@@ -20,16 +23,14 @@ pub struct Choice {
 }
 
 // What an input word selects.
-pub fn selected(values: &Values, inputs: u32) -> Selection
-    ensures { λ r. ⌜ r ≡ selectedOf (now (values .entry)) inputs ⌝ }
+pub fn selected(values: &Values, word: u32) -> Selection
+    ensures { λ r. ⌜ r ≡ selectedOf (now (values .entry)) word ⌝ }
 {
-    if machine_data::function(values, 0) {
-        if bits::bit(inputs, 0) {
+    if machine_data::function(values, functions::SBH_SG) {
+        if inputs::sbh_sg_off(word) {
             Selection::Nothing
-        } else if bits::bit(inputs, 1) {
-            let n = (inputs / 8 % 4) as u8;
-            let o = (inputs / 268435456) as u8;
-            Selection::Sg(n, o)
+        } else if inputs::sbh_off(word) {
+            Selection::Sg(inputs::sg_number(word), inputs::override_number(word))
         } else {
             Selection::Sbh
         }
@@ -44,7 +45,7 @@ fn allowance(values: &Values, s: Selection) -> u64
 {
     match s {
         Selection::Nothing => 100000001,
-        Selection::Sg(n, o) => speed::sg_speed(values, n, o),
+        Selection::Sg(number, over) => speed::sg_speed(values, Sg { number, over }),
         Selection::Sbh => 0,
     }
 }
@@ -59,13 +60,13 @@ fn is_sbh(s: Selection) -> bool
     }
 }
 
-// Whether s is SG n + 1 with override o.
-fn is_sg(s: Selection, n: u8, o: u8) -> bool
-    ensures { λ r. ⌜ r ≡ isSg n o s ⌝ }
+// Whether s is an SG with its override.
+fn is_sg(s: Selection, sg: Sg) -> bool
+    ensures { λ r. ⌜ r ≡ isSg (sg .number) (sg .over) s ⌝ }
 {
     match s {
         Selection::Nothing => false,
-        Selection::Sg(m, p) => m == n && p == o,
+        Selection::Sg(number, over) => number == sg.number && over == sg.over,
         Selection::Sbh => false,
     }
 }
@@ -76,7 +77,7 @@ fn same_sg(s: Selection, e: Selection) -> bool
 {
     match s {
         Selection::Nothing => false,
-        Selection::Sg(n, o) => is_sg(e, n, o),
+        Selection::Sg(number, over) => is_sg(e, Sg { number, over }),
         Selection::Sbh => false,
     }
 }
@@ -112,11 +113,11 @@ impl Choice {
 
     // The count of a lowering: datum 27 where none is under way, else one less.
     fn count(self, values: &Values) -> u32
-        ensures { λ r. ⌜ r ≡ countOf (now (values .entry)) (self .left) ⌝ }
+        ensures { λ r. ⌜ r ≡ delayCount (now (values .entry)) (self .left) ⌝ }
     {
         let running = self.left;
         if running == 0 {
-            machine_data::cycles(values, 27)
+            machine_data::cycles(values, numbers::DELAY)
         } else {
             running - 1
         }

@@ -1,6 +1,6 @@
--- Laws of the ranks and of step 5, by cases on the rank and the stop. Assumes nothing.
-use Prim.Native.Nat.{ℕ, zero, suc, _-_, _≤_, _<_, max}
-use mathlib.Core.Path.{_≡_, refl, sym, ap, _∙_}
+-- Laws of step 5, by cases on the rank and the stop. Assumes nothing.
+use Prim.Native.Nat.{ℕ, _-_, _≤_, _<_, max}
+use mathlib.Core.Path.{_≡_, refl, sym}
 use mathlib.Core.Bool.{Bool, true, false, cond, _&&_, _||_, true≢false}
 use mathlib.Core.List.{List}
 use mathlib.Core.Logic.{_↔_}
@@ -8,49 +8,12 @@ use native.Mathlib.Omega.{arith}
 use borrow.Author.Tests.{ltb-true, ltb-false, eqb-false, eqb-true, ne-eqb}
 use lib.Dec.{ltb, eqb}
 use lib.IntN.{ℤ}
-use Rattle.stop.specs.declared.Rank.{Rank}
-use Rattle.stop.specs.declared.Rank.the-variants.{None, E, D, C, B, A}
+use Rattle.rank.specs.declared.Rank.{Rank}
+use Rattle.rank.specs.declared.Rank.the-variants.{None, E, D, C, B, A}
 use Rattle.stop.specs.declared.Stop.{Stop}
 use Rattle.stop.specs.declared.Stop.the-variants.{Free, Braking, Held, Cancelled}
-use Rattle.stop.specs.Stop.{rankNumber, rankFrom, strongerOf, timeOf, levelOf, outranks, enteredOf, countedOf, heldAt, endsOf, brakedAt, atCount, settledOf, stopNext, WellFormed, entersOf, countOf, levelAt, rankAfter, becomesA}
-
--- ---- ranks and their numbers
-
-pub stronger-max : (a b : Rank) → rankNumber (strongerOf a b) ≡ max (rankNumber a) (rankNumber b)
-stronger-max a b = go (ltb (rankNumber a) (rankNumber b)) refl
-  where
-    go : (t : Bool) → ltb (rankNumber a) (rankNumber b) ≡ t → rankNumber (cond t b a) ≡ max (rankNumber a) (rankNumber b)
-    go true q = omega (arith, ltb-true (rankNumber a) (rankNumber b) q)
-    go false q = omega (arith, ltb-false (rankNumber a) (rankNumber b) q)
-
-pub rankFrom-number : (n : ℕ) → n ≤ 5 → rankNumber (rankFrom n) ≡ n
-rankFrom-number zero h = refl
-rankFrom-number (suc zero) h = refl
-rankFrom-number (suc (suc zero)) h = refl
-rankFrom-number (suc (suc (suc zero))) h = refl
-rankFrom-number (suc (suc (suc (suc zero)))) h = refl
-rankFrom-number (suc (suc (suc (suc (suc n))))) h = omega arith
-
-pub number-rankFrom : (r : Rank) → rankFrom (rankNumber r) ≡ r
-number-rankFrom None = refl
-number-rankFrom E = refl
-number-rankFrom D = refl
-number-rankFrom C = refl
-number-rankFrom B = refl
-number-rankFrom A = refl
-
-pub number-injective : (a b : Rank) → rankNumber a ≡ rankNumber b → a ≡ b
-number-injective a b e = sym (number-rankFrom a) ∙ ap rankFrom e ∙ number-rankFrom b
-
-pub stronger-assoc : (a b c : Rank) → strongerOf (strongerOf a b) c ≡ strongerOf a (strongerOf b c)
-stronger-assoc a b c =
-    number-injective _ _ (omega (arith, stronger-max (strongerOf a b) c, stronger-max a b, stronger-max a (strongerOf b c), stronger-max b c))
-
-pub stronger-none : (r : Rank) → strongerOf r None ≡ r
-stronger-none r = number-injective _ r (omega (arith, stronger-max r None))
-
-pub none-stronger : (r : Rank) → strongerOf None r ≡ r
-none-stronger r = number-injective _ r (omega (arith, stronger-max None r))
+use Rattle.rank.specs.Rank.{rankNumber, rankFrom, strongerOf, timeOf}
+use Rattle.stop.specs.Stop.{levelOf, outranks, enteredOf, countedOf, heldAt, endsOf, brakedAt, atCount, settledOf, stopNext, WellFormed, entersOf, stopCount, levelAt, rankAfter, becomesA}
 
 -- ---- the rank after a cycle
 
@@ -74,7 +37,7 @@ not-B : (slow : Bool) (level n : ℕ) → level ≤ 3 → level ≡ levelAt slow
 not-B slow level n h = let e : eqb level 4 ≡ false = ne-eqb level 4 (λ q. omega arith) in simp e
 
 -- no stop is held with rank B
-counted-level : (d : List ℤ) (slow : Bool) (p : ℤ) {s : Stop} → WellFormed d s → levelOf (settledOf slow p (countedOf s)) ≡ levelAt slow (levelOf s) (countOf s - 1)
+counted-level : (d : List ℤ) (slow : Bool) (p : ℤ) {s : Stop} → WellFormed d s → levelOf (settledOf slow p (countedOf s)) ≡ levelAt slow (levelOf s) (stopCount s - 1)
 counted-level d slow p WellFormed.free = refl
 counted-level d slow p (WellFormed.braking {r} {n} a b c e) = at-level slow p r (n - 1)
 counted-level d slow p (WellFormed.held {r} a b) = not-B slow (rankNumber r) 0 b
@@ -93,7 +56,7 @@ rank-after d true strongest slow p w = refl
 rank-after d false strongest slow p {s} w = go (outranks strongest s)
   where
     go : (t : Bool) → levelOf (settledOf slow p (cond t (enteredOf d strongest) (countedOf s)))
-        ≡ cond t (levelAt slow (rankNumber strongest) (timeOf d strongest)) (levelAt slow (levelOf s) (countOf s - 1))
+        ≡ cond t (levelAt slow (rankNumber strongest) (timeOf d strongest)) (levelAt slow (levelOf s) (stopCount s - 1))
     go true = at-level slow p strongest (timeOf d strongest)
     go false = counted-level d slow p w
 
@@ -115,7 +78,7 @@ entered-iff d true strongest slow p w h = (λ q. absurd (omega arith), λ q. abs
 entered-iff d false strongest slow p {s} w h = rw (rank-after d false strongest slow p w) (go (outranks strongest s) refl)
   where
     go : (t : Bool) → outranks strongest s ≡ t →
-        (levelOf s < cond t (levelAt slow (rankNumber strongest) (timeOf d strongest)) (levelAt slow (levelOf s) (countOf s - 1))) ↔ (t ≡ true)
+        (levelOf s < cond t (levelAt slow (rankNumber strongest) (timeOf d strongest)) (levelAt slow (levelOf s) (stopCount s - 1))) ↔ (t ≡ true)
     go true e = (λ q. refl, λ q. omega (arith, ltb-true (levelOf s) (rankNumber strongest) e, level-least slow (rankNumber strongest) (timeOf d strongest)))
     go false e = (λ q. absurd (let z : levelOf s < levelOf s = rw h at q in omega arith), λ q. absurd (true≢false (sym q)))
 

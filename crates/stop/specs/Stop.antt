@@ -1,45 +1,14 @@
--- Stop ranks, the stop state and step 5 of a cycle: document 01, "Machine data" and "One cycle of a channel".
-use Prim.Native.Nat.{ℕ, zero, suc, _-_, _≤_}
+-- The stop state and step 5 of a cycle: document 01, "One cycle of a channel".
+use Prim.Native.Nat.{ℕ, _-_, _≤_}
 use mathlib.Core.Bool.{Bool, not, cond, _&&_, _||_}
 use mathlib.Core.List.{List}
 use lib.IntN.{ℤ}
 use lib.Dec.{ltb, eqb}
-use Rattle.machine_data.specs.Data.{numberOf}
-use Rattle.stop.specs.declared.Rank.{Rank}
-use Rattle.stop.specs.declared.Rank.the-variants.{None, E, D, C, B, A}
+use Rattle.rank.specs.declared.Rank.{Rank}
+use Rattle.rank.specs.declared.Rank.the-variants.{None, E, D, C, B, A}
+use Rattle.rank.specs.Rank.{rankNumber, timeOf}
 use Rattle.stop.specs.declared.Stop.{Stop}
 use Rattle.stop.specs.declared.Stop.the-variants.{Free, Braking, Held, Cancelled}
-
--- "Stop ranks: 0 none, 1 E, 2 D, 3 C, 4 B, 5 A"
-abbrev pub rankNumber : Rank → ℕ
-rankNumber None = 0
-rankNumber E = 1
-rankNumber D = 2
-rankNumber C = 3
-rankNumber B = 4
-rankNumber A = 5
-
--- the rank of a number; past 5, which no datum holds, it is A
-abbrev pub rankFrom : ℕ → Rank
-rankFrom zero = None
-rankFrom (suc zero) = E
-rankFrom (suc (suc zero)) = D
-rankFrom (suc (suc (suc zero))) = C
-rankFrom (suc (suc (suc (suc zero)))) = B
-rankFrom (suc (suc (suc (suc (suc n))))) = A
-
--- the stronger of two ranks
-abbrev pub strongerOf : Rank → Rank → Rank
-strongerOf a b = cond (ltb (rankNumber a) (rankNumber b)) b a
-
--- "29-32 | times of STOP C, D, E; B to A"; "0 for A"
-abbrev pub timeOf : List ℤ → Rank → ℕ
-timeOf d None = 0
-timeOf d E = numberOf d 31
-timeOf d D = numberOf d 30
-timeOf d C = numberOf d 29
-timeOf d B = numberOf d 32
-timeOf d A = 0
 
 -- the rank of a stop state
 abbrev pub rankOf : Stop → Rank
@@ -115,11 +84,11 @@ abbrev pub entersOf : Bool → Rank → Stop → Bool
 entersOf clears strongest s = not clears && outranks strongest s
 
 -- the cycles left; a stop that does not brake has none
-abbrev pub countOf : Stop → ℕ
-countOf Free = 0
-countOf (Braking r n) = n
-countOf (Held r p) = 0
-countOf Cancelled = 0
+abbrev pub stopCount : Stop → ℕ
+stopCount Free = 0
+stopCount (Braking r n) = n
+stopCount (Held r p) = 0
+stopCount Cancelled = 0
 
 -- a rank's number with n cycles left: 4 is 5 where B becomes A
 abbrev pub levelAt : Bool → ℕ → ℕ → ℕ
@@ -131,8 +100,8 @@ rankAfter d clears strongest slow s =
     cond clears 0
     (cond (entersOf clears strongest s)
     (levelAt slow (rankNumber strongest) (timeOf d strongest))
-    (levelAt slow (levelOf s) (countOf s - 1)))
+    (levelAt slow (levelOf s) (stopCount s - 1)))
 
 -- the standing B becomes A
 abbrev pub becomesA : Bool → Bool → Stop → Bool
-becomesA clears slow s = not clears && eqb (levelOf s) 4 && endsOf slow (countOf s - 1)
+becomesA clears slow s = not clears && eqb (levelOf s) 4 && endsOf slow (stopCount s - 1)

@@ -1,9 +1,10 @@
 -- `channel_word::channel_word` meets its contract. Assumes nothing.
 use lib.Dec.{eqb}
 use mathlib.Core.Path.{_∙_}
-use Rattle.channel_word.specs.Word.{wordBy}
-use Rattle.channel_word.proofs.Widths.{flag-le, sg-le, rank-le}
 use native.Mathlib.Omega.{arith}
+use Rattle.rank.proofs.Laws.{rank-le}
+use Rattle.channel_word.specs.Word.{wordBy}
+use Rattle.channel_word.proofs.Widths.{flag-le, sg-le}
 use borrow.Author.Needs.{needs}
 use Rattle.channel_word.proofs.channel_word.Statement.{statement}
 use Rattle.channel_word.proofs.channel_word.Tie as tie

@@ -1,25 +1,22 @@
+-- `inputs::spare_off` meets its contract: a group that is not 0 makes the sum not 0. Assumes nothing.
 use mathlib.Core.Path.{_≡_, sym, ap}
 use Prim.Native.Nat.{ℕ, _/_, _%_}
 use native.Mathlib.Omega.{arith}
 use lib.Dec.{eqb}
 use borrow.Author.Tests.{ne-eqb}
-use Rattle.inputs.specs.Inputs.{spareOf}
+use Rattle.inputs.specs.Layout.{spareOf}
 use Rattle.inputs.proofs.spare_off.Statement.{statement}
 use Rattle.inputs.proofs.spare_off.Tie as tie
 
--- src/lib.rt:24:9
 returns : tie.Need-returns
 returns c = sym (ne-eqb (spareOf (c .before .args .w)) 0 (λ q. omega (arith, q, c .if1 .taken)))
 
--- src/lib.rt:27:9
 returns-2 : tie.Need-returns-2
 returns-2 c = sym (ne-eqb (spareOf (c .before .before .args .w)) 0 (λ q. omega (arith, q, c .if2 .taken)))
 
--- src/lib.rt:30:9
 returns-3 : tie.Need-returns-3
 returns-3 c = sym (ne-eqb (spareOf (c .before .before .before .args .w)) 0 (λ q. omega (arith, q, c .if3 .taken)))
 
--- src/lib.rt:20:1
 returns-4 : tie.Need-returns-4
 returns-4 c = let w = c .before .before .before .args .w in
     let last : w / 4194304 % 64 ≡ spareOf w = omega (arith, c .before .before .if1 .left, c .before .if2 .left, c .if3 .left) in

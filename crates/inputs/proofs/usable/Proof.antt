@@ -7,7 +7,7 @@ use lib.IntN.{natAbs}
 use mir.Facts.{toZ-ofZ, sfits-widen}
 use mir.Syntax.{w32, w64}
 use mir.Val.{SFits}
-use Rattle.inputs.specs.Inputs.{usableOf}
+use Rattle.inputs.specs.Usable.{usableOf}
 use Rattle.inputs.proofs.usable.Statement.{statement}
 use Rattle.inputs.proofs.usable.Tie as tie
 

@@ -8,8 +8,8 @@ use Rattle.limits.proofs.outside.Tie as tie
 function-requires : tie.Need-function-requires
 function-requires c κs = search needs
 
-bit-requires : tie.Need-bit-requires
-bit-requires c κs = search needs
+se2-chosen-requires : tie.Need-se2-chosen-requires
+se2-chosen-requires c κs = search needs
 
 beyond-requires : tie.Need-beyond-requires
 beyond-requires c κs = search needs
@@ -19,11 +19,11 @@ beyond-requires-2 c κs = search needs
 
 returns : tie.Need-returns
 unfolding outside
-returns c = c .beyond .ensures ∙ simp (sym (c .before .before .before .before .function .ensures) ∙ c .before .before .before .if1 .taken, sym (c .before .before .bit .ensures) ∙ c .before .if2 .taken)
+returns c = c .beyond .ensures ∙ simp (sym (c .before .before .before .before .function .ensures) ∙ c .before .before .before .if1 .taken, sym (c .before .before .se2-chosen .ensures) ∙ c .before .if2 .taken)
 
 returns-2 : tie.Need-returns-2
 unfolding outside
-returns-2 c = c .beyond2 .ensures ∙ simp (sym (c .before .before .before .before .function .ensures) ∙ c .before .before .before .if1 .taken, sym (c .before .before .bit .ensures) ∙ c .before .if2 .left)
+returns-2 c = c .beyond2 .ensures ∙ simp (sym (c .before .before .before .before .function .ensures) ∙ c .before .before .before .if1 .taken, sym (c .before .before .se2-chosen .ensures) ∙ c .before .if2 .left)
 
 returns-3 : tie.Need-returns-3
 unfolding outside
@@ -34,7 +34,7 @@ outside-spec =
     tie.close
     (tie.spec
     function-requires
-    bit-requires
+    se2-chosen-requires
     beyond-requires
     beyond-requires-2
     returns

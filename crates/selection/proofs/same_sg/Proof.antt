@@ -26,4 +26,6 @@ returns-3 : tie.Need-returns-3
 returns-3 c = search needs
 
 pub same-sg-spec : {M : Type 1} → statement M
-same-sg-spec = tie.close (tie.spec enum-told enum-known-s is-sg-requires enum-told-2 returns returns-2 returns-3)
+same-sg-spec =
+    tie.close
+    (tie.spec enum-told enum-known-s is-sg-requires enum-told-2 returns returns-2 returns-3)

@@ -1,9 +1,5 @@
--- `selection::selected` meets its contract, by its tests; the override is the word's top four bits. Assumes nothing.
-use Prim.Native.Nat.{_/_, _%_}
-use mathlib.Core.Path.{_∙_, sym, ap}
-use native.Mathlib.Omega.{arith}
-use Rattle.bits.specs.Bits.{fieldOf}
-use Rattle.selection.specs.declared.Selection.the-variants.{Sg}
+-- `selection::selected` meets its contract, by its tests. Assumes nothing.
+use mathlib.Core.Path.{_∙_, sym}
 use Rattle.selection.specs.Selection.{selectedOf}
 use borrow.Author.Needs.{needs}
 use Rattle.selection.proofs.selected.Statement.{statement}
@@ -12,29 +8,29 @@ use Rattle.selection.proofs.selected.Tie as tie
 function-requires : tie.Need-function-requires
 function-requires c κs = search needs
 
-bit-requires : tie.Need-bit-requires
-bit-requires c κs = search needs
+sbh-sg-off-requires : tie.Need-sbh-sg-off-requires
+sbh-sg-off-requires c κs = search needs
 
-bit-requires-2 : tie.Need-bit-requires-2
-bit-requires-2 c κs = search needs
+sbh-off-requires : tie.Need-sbh-off-requires
+sbh-off-requires c κs = search needs
 
-cast-n : tie.Need-cast-n
-cast-n c = search needs
+sg-number-requires : tie.Need-sg-number-requires
+sg-number-requires c κs = search needs
 
-cast-o : tie.Need-cast-o
-cast-o c = search needs
+override-number-requires : tie.Need-override-number-requires
+override-number-requires c κs = search needs
 
 returns : tie.Need-returns
 unfolding selectedOf
-returns c = simp (sym (c .before .before .before .function .ensures) ∙ c .before .before .if1 .taken, sym (c .before .bit .ensures) ∙ c .if2 .taken)
+returns c = simp (sym (c .before .before .before .function .ensures) ∙ c .before .before .if1 .taken, sym (c .before .sbh-sg-off .ensures) ∙ c .if2 .taken)
 
 returns-2 : tie.Need-returns-2
-unfolding selectedOf fieldOf
-returns-2 c = simp (sym (c .before .before .before .before .before .function .ensures) ∙ c .before .before .before .before .if1 .taken, sym (c .before .before .before .bit .ensures) ∙ c .before .before .if2 .left, sym (c .before .bit2 .ensures) ∙ c .if3 .taken) (ap (Sg (c .before .before .before .before .before .before .args .inputs / 8 % 4)) (omega arith))
+unfolding selectedOf
+returns-2 c = simp (sym (c .before .before .before .before .before .before .before .function .ensures) ∙ c .before .before .before .before .before .before .if1 .taken, sym (c .before .before .before .before .before .sbh-sg-off .ensures) ∙ c .before .before .before .before .if2 .left, sym (c .before .before .before .sbh-off .ensures) ∙ c .before .before .if3 .taken) (simp (c .before .sg-number .ensures, c .override-number .ensures))
 
 returns-3 : tie.Need-returns-3
 unfolding selectedOf
-returns-3 c = simp (sym (c .before .before .before .before .before .function .ensures) ∙ c .before .before .before .before .if1 .taken, sym (c .before .before .before .bit .ensures) ∙ c .before .before .if2 .left, sym (c .before .bit2 .ensures) ∙ c .if3 .left)
+returns-3 c = simp (sym (c .before .before .before .before .before .function .ensures) ∙ c .before .before .before .before .if1 .taken, sym (c .before .before .before .sbh-sg-off .ensures) ∙ c .before .before .if2 .left, sym (c .before .sbh-off .ensures) ∙ c .if3 .left)
 
 returns-4 : tie.Need-returns-4
 unfolding selectedOf
@@ -45,10 +41,10 @@ selected-spec =
     tie.close
     (tie.spec
     function-requires
-    bit-requires
-    bit-requires-2
-    cast-n
-    cast-o
+    sbh-sg-off-requires
+    sbh-off-requires
+    sg-number-requires
+    override-number-requires
     returns
     returns-2
     returns-3

@@ -9,12 +9,12 @@ use Rattle.speed.proofs.sg_speed.Tie as tie
 sg-limit-requires : tie.Need-sg-limit-requires
 sg-limit-requires c κs = search needs
 
-percent-requires : tie.Need-percent-requires
-percent-requires c κs = search needs
+sg-percent-requires : tie.Need-sg-percent-requires
+sg-percent-requires c κs = search needs
 
 mul-result : tie.Need-mul-result
 mul-result c = let s = c .before .before .args in
-    rw (c .before .sg-limit .ensures, c .percent .ensures) (product-fits (number-most (s .values .now) _) (percent-small (s .values .now) (s .n) (s .o)))
+    rw (c .before .sg-limit .ensures, c .sg-percent .ensures) (product-fits (number-most (s .values .now) _) (percent-small (s .values .now) (s .sg .number) (s .sg .over)))
 
 returns : tie.Need-returns
 unfolding speedOf
@@ -22,4 +22,4 @@ returns c = cc
 
 pub sg-speed-spec : {M : Type 1} → statement M
 sg-speed-spec =
-    tie.close (tie.spec sg-limit-requires percent-requires mul-result returns)
+    tie.close (tie.spec sg-limit-requires sg-percent-requires mul-result returns)

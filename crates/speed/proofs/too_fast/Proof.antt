@@ -14,7 +14,7 @@ number-requires c κs = search needs
 
 mul-result : tie.Need-mul-result
 mul-result c = let s = c .before .before .args in
-    rw (c .before .sg-speed .ensures, c .number .ensures) (product-fits (speed-most (s .values .now) (s .n) (s .o)) (number-most (s .values .now) _))
+    rw (c .before .sg-speed .ensures, c .number .ensures) (product-fits (speed-most (s .values .now) (s .sg .number) (s .sg .over)) (number-most (s .values .now) _))
 
 mul-result-2 : tie.Need-mul-result-2
 mul-result-2 c = search needs

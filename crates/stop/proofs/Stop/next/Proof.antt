@@ -3,7 +3,8 @@ use mathlib.Core.Path.{_≡_, _∙_, ap}
 use mathlib.Core.Bool.{true, false}
 use native.Mathlib.Omega.{arith}
 use borrow.Author.Tests.{lt-ltb, le-ltb}
-use Rattle.stop.specs.Stop.{stopNext, rankNumber, levelOf, outranks}
+use Rattle.rank.specs.Rank.{rankNumber}
+use Rattle.stop.specs.Stop.{stopNext, levelOf, outranks}
 use borrow.Author.Needs.{needs}
 use Rattle.stop.proofs.Stop.next.Statement.{statement}
 use Rattle.stop.proofs.Stop.next.Tie as tie

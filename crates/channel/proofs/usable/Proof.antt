@@ -1,0 +1,45 @@
+-- `channel::usable` meets its contract. Assumes nothing.
+use mir.Syntax.{w32}
+use mir.Val.{SFits}
+use mir.Facts.{toZ-ofZ}
+use borrow.Author.Needs.{needs}
+use Rattle.channel.proofs.usable.Statement.{statement}
+use Rattle.channel.proofs.usable.Tie as tie
+
+of-requires : tie.Need-of-requires
+of-requires c κs = search needs
+
+clears-requires : tie.Need-clears-requires
+clears-requires c κs = search needs
+
+slower-requires : tie.Need-slower-requires
+slower-requires c κs = search needs
+
+next-k-requires : tie.Need-next-k-requires
+next-k-requires c κs = search needs
+
+next-requires : tie.Need-next-requires
+next-requires c κs = search needs
+
+cleared-requires : tie.Need-cleared-requires
+cleared-requires c κs = search needs
+
+next-requires-2 : tie.Need-next-requires-2
+next-requires-2 c κs = search needs
+
+returns : tie.Need-returns
+returns c = let fp : SFits w32 (c .before .before .before .before .before .before .before .before .before .before .before .before .before .args .given .reading .position) = search needs in
+    simp (toZ-ofZ fp) (simp (c .before .next2 .ensures, c .before .before .cleared .ensures, c .before .before .before .next .ensures, c .before .before .before .before .next-k .ensures, c .before .before .before .before .before .slower .ensures, c .before .before .before .before .before .before .clears .ensures, c .before .before .before .before .before .before .before .of .ensures))
+
+pub usable-spec : {M : Type 1} → statement M
+usable-spec =
+    tie.close
+    (tie.spec
+    of-requires
+    clears-requires
+    slower-requires
+    next-k-requires
+    next-requires
+    cleared-requires
+    next-requires-2
+    returns)

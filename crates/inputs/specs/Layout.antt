@@ -1,0 +1,37 @@
+-- The input word: document 01, "Input word, bytes 22, 23, 32, 33 of DB31, 22 lowest".
+use Prim.Native.Nat.{ℕ, _+_, _/_, _%_, _^_}
+use mathlib.Core.Bool.{Bool}
+use Rattle.bits.specs.Bits.{bitOf, fieldOf}
+use Rattle.inputs.specs.declared.External.{External}
+use Rattle.inputs.specs.declared.External.the-variants.{A, C, D, E}
+
+-- "bit 0 SBH/SG de-selected"
+abbrev pub sbhSgOff : ℕ → Bool
+sbhSgOff w = bitOf w 0
+
+-- "1 SBH de-selected"
+abbrev pub sbhOff : ℕ → Bool
+sbhOff w = bitOf w 1
+
+-- "3-4 SG number less one"
+abbrev pub sgNumber : ℕ → ℕ
+sgNumber w = fieldOf w 3 4
+
+-- "12 SE2 instead of SE1"
+abbrev pub se2Chosen : ℕ → Bool
+se2Chosen w = bitOf w 12
+
+-- "18-21 external STOP A, C, D, E de-selected"
+abbrev pub externalOff : ℕ → External → Bool
+externalOff w A = bitOf w 18
+externalOff w C = bitOf w 19
+externalOff w D = bitOf w 20
+externalOff w E = bitOf w 21
+
+-- "28-31 override"
+abbrev pub overrideNumber : ℕ → ℕ
+overrideNumber w = fieldOf w 28 16
+
+-- "Every other bit": 2, 5 to 11, 13 to 17 and 22 to 27; 0 if each of them is
+abbrev pub spareOf : ℕ → ℕ
+spareOf w = w / 2 ^ 2 % 2 ^ 1 + w / 2 ^ 5 % 2 ^ 7 + w / 2 ^ 13 % 2 ^ 5 + w / 2 ^ 22 % 2 ^ 6

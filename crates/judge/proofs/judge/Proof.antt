@@ -1,0 +1,63 @@
+-- `judge::judge` meets its contract. Assumes nothing.
+use mir.Syntax.{w32}
+use mir.Val.{SFits}
+use mir.Facts.{toZ-ofZ}
+use Rattle.judge.specs.Causes.{choiceIn, differingIn, differencesIn, faultIn, usableRows, findingsOf}
+use borrow.Author.Needs.{needs}
+use Rattle.judge.proofs.judge.Statement.{statement}
+use Rattle.judge.proofs.judge.Tie as tie
+
+moved-to-requires : tie.Need-moved-to-requires
+moved-to-requires c κs = search needs
+
+selected-requires : tie.Need-selected-requires
+selected-requires c κs = search needs
+
+next-requires : tie.Need-next-requires
+next-requires c κs = search needs
+
+run-requires : tie.Need-run-requires
+run-requires c κs = search needs
+
+position-differs-requires : tie.Need-position-differs-requires
+position-differs-requires c κs = search needs
+
+inputs-differ-requires : tie.Need-inputs-differ-requires
+inputs-differ-requires c κs = search needs
+
+datum-differs-requires : tie.Need-datum-differs-requires
+datum-differs-requires c κs = search needs
+
+any-requires : tie.Need-any-requires
+any-requires c κs = search needs
+
+next-requires-2 : tie.Need-next-requires-2
+next-requires-2 c κs = search needs
+
+expired-requires : tie.Need-expired-requires
+expired-requires c κs = search needs
+
+rows-requires : tie.Need-rows-requires
+rows-requires c κs = search needs
+
+returns : tie.Need-returns
+unfolding choiceIn differingIn differencesIn faultIn usableRows findingsOf
+returns c = let fp : SFits w32 (c .before .before .before .before .before .before .before .before .before .before .before .before .before .before .before .before .before .args .given .reading .position) = search needs in
+    simp (c .rows .ensures, c .before .expired .ensures, c .before .before .next2 .ensures, c .before .before .before .any .ensures, c .before .before .before .before .datum-differs .ensures, c .before .before .before .before .before .inputs-differ .ensures, c .before .before .before .before .before .before .position-differs .ensures, c .before .before .before .before .before .before .before .run .ensures, c .before .before .before .before .before .before .before .before .next .ensures, c .before .before .before .before .before .before .before .before .before .selected .ensures, c .before .before .before .before .before .before .before .before .before .before .moved-to .ensures, toZ-ofZ fp)
+
+pub judge-spec : {M : Type 1} → statement M
+judge-spec =
+    tie.close
+    (tie.spec
+    moved-to-requires
+    selected-requires
+    next-requires
+    run-requires
+    position-differs-requires
+    inputs-differ-requires
+    datum-differs-requires
+    any-requires
+    next-requires-2
+    expired-requires
+    rows-requires
+    returns)

@@ -1,0 +1,98 @@
+-- Steps 2 to 4 of a cycle: what moved, what is effective, and the table of causes. Document 01, "One cycle of a channel".
+use Prim.Native.Nat.{ℕ}
+use mathlib.Core.Bool.{Bool, true, cond, _||_}
+use mathlib.Core.List.{List, [], _∷_}
+use Rattle.machine_data.specs.declared.MachineData.{MachineData}
+use Rattle.distance.specs.Step.{movedFrom}
+use lib.IntN.{ℤ}
+use Rattle.inputs.specs.declared.Reading.{Reading}
+use Rattle.inputs.specs.declared.External as X
+use Rattle.inputs.specs.Usable.{usableOf}
+use Rattle.report.specs.Report.{datumDiffers}
+use Rattle.limits.specs.Limits.{standstillLeft, overSpeed, sgRank, outside, seRank, external, holdLeft}
+use Rattle.selection.specs.declared.Choice.{Choice}
+use Rattle.selection.specs.Selection.{selectedOf, choiceNext}
+use Rattle.rank.specs.declared.Rank.the-variants as R
+use Rattle.stop.specs.declared.Stop.{Stop}
+use Rattle.comparison.specs.declared.Fault.{Fault}
+use Rattle.comparison.specs.Comparison.{positionDiffers, runOf, inputsDiffer, faultNext, expired}
+use Rattle.causes.specs.declared.Cause.{Cause}
+use Rattle.causes.specs.Causes.{cause}
+use Rattle.state.specs.declared.State.{State}
+use Rattle.state.specs.declared.Given.{Given}
+use Rattle.judge.specs.declared.Differences.{Differences}
+use Rattle.judge.specs.declared.Findings.{Findings}
+
+-- step 2: |d|
+abbrev pub movedIn : State → Given → ℕ
+movedIn s g = movedFrom (s .previous) (g .reading .position)
+
+-- step 3: the choice that this cycle's selection makes
+unfoldable pub choiceIn : MachineData → State → Given → Choice
+choiceIn m s g = choiceNext (m .values) (s .kept .choice) (selectedOf (m .values) (g .reading .inputs)) (g .reading .position)
+
+-- the run of differing input words, as this cycle leaves it
+unfoldable pub differingIn : State → Given → ℕ
+differingIn s g = runOf (s .kept .differing) (g .reading) (g .report)
+
+-- "10 position differs from the report by more than datum 26"; "11 input words differ in more than datum 28 usable cycles running";
+-- "12 datum k differs"
+unfoldable pub differencesIn : MachineData → State → Given → Differences
+differencesIn m s g =
+    record {
+      position = positionDiffers (m .values) (g .reading) (g .report);
+      inputs = inputsDiffer (m .values) (differingIn s g);
+      datum = datumDiffers m (s .k) (g .report);
+    }
+
+abbrev pub anyDiffers : Differences → Bool
+anyDiffers o = o .position || o .inputs || o .datum
+
+-- "10, 11, 12 set F": F as this cycle's differences leave it
+unfoldable pub faultIn : MachineData → State → Given → Fault
+faultIn m s g = faultNext (m .values) (anyDiffers (differencesIn m s g)) (s .kept .fault)
+
+-- step 4, "Causes (2 and 3 by the effective selection)", each with its rank: of the data d, the standing stop, a reading, the choice x, |d|, what
+-- differs, and whether F's count has run out. 10, 11 and 12 have no rank of their own
+abbrev pub table : List ℤ → Stop → Reading → Choice → ℕ → Differences → Bool → List Cause
+table d stop r x moved differs expiry =
+    -- "2 SBH, distance from reference over datum 2, rank 4"
+    cause 2 (standstillLeft d x (r .position)) R.B
+    -- "3 SG, |d| × 6000 > limit × percent × T, rank by datum"
+    ∷ cause 3 (overSpeed d (x .effective) moved) (sgRank d (x .effective))
+    -- "4 SE as chosen by bit 12, .., rank by datum 15"
+    ∷ cause 4 (outside d r) (seRank d)
+    -- "5, 6, 7, 8 external A, C, D, E, its input bit 0, rank its own"
+    ∷ cause 5 (external d (r .inputs) X.the-variants.A) R.A
+    ∷ cause 6 (external d (r .inputs) X.the-variants.C) R.C
+    ∷ cause 7 (external d (r .inputs) X.the-variants.D) R.D
+    ∷ cause 8 (external d (r .inputs) X.the-variants.E) R.E
+    -- "9 held, distance from the hold's reference over datum 2, rank 4"
+    ∷ cause 9 (holdLeft d stop (r .position)) R.B
+    -- "10 position differs ..", "11 input words differ ..", "12 datum k differs"
+    ∷ cause 10 (differs .position) R.None
+    ∷ cause 11 (differs .inputs) R.None
+    ∷ cause 12 (differs .datum) R.None
+    -- "at 0, with F on, stands cause 13, rank 4, in every case"
+    ∷ cause 13 expiry R.B
+    ∷ []
+
+-- the table of a usable cycle
+unfoldable pub usableRows : MachineData → State → Given → List Cause
+usableRows m s g =
+    table (m .values) (s .stop) (g .reading) (choiceIn m s g) (movedIn s g) (differencesIn m s g) (expired (faultIn m s g))
+
+-- "Unusable: cause 1, rank 5"; else the table of step 4
+unfoldable pub rowsOf : MachineData → State → Given → List Cause
+rowsOf m s g = cond (usableOf m (g .reading)) (usableRows m s g) (cause 1 true R.A ∷ [])
+
+-- what steps 2 to 4 come to in a usable cycle
+unfoldable pub findingsOf : MachineData → State → Given → Findings
+findingsOf m s g =
+    record {
+      moved = movedIn s g;
+      choice = choiceIn m s g;
+      differing = differingIn s g;
+      fault = faultIn m s g;
+      rows = usableRows m s g;
+    }

@@ -13,10 +13,11 @@ use Rattle.records.specs.declared.Entry as E
 use Rattle.records.specs.declared.Scan as S
 use Rattle.records.specs.Records.{entryAt, LogRead, records, fault, before, onEntry, logFrom, logOf, counted, scanOf}
 use Rattle.channel.specs.declared.Channel.{Channel}
-use Rattle.channel.specs.declared.State.{State}
+use Rattle.state.specs.declared.State.{State}
+use Rattle.channel.specs.Cycle.{withState}
 use Rattle.log.specs.declared.LogRun.{LogRun}
 use Rattle.log.specs.declared.LogAnswer.the-variants.{Accepted}
-use Rattle.log.specs.Run.{Both, Ran, bothOf, withState, refusing, running, byRecords, ranOf}
+use Rattle.log.specs.Run.{Both, Ran, bothOf, refusing, running, byRecords, ranOf}
 use Rattle.log.specs.Alone.{wordsAlone, thirds, withDevices}
 use Rattle.log.specs.Ensures.{LogEnsures, refusedRun, Sound, RunsAlone}
 use Rattle.log.proofs.Thirds.{together}
@@ -101,11 +102,11 @@ module _ (a b : Channel) (words out : List ℕ) where
 
   -- both channels run one after the other, then their device words, as the machine gives them back
   module _ (la lb : State) (outa outb out′ : List ℕ) where
-    pub ran : {n : ℕ} → Sound words out n → RunsAlone a (b .list .values) (b .state .k) false words out la outa → RunsAlone b (a .list .values) (a .state .k) true words outa lb outb →
+    pub ran : {n : ℕ} → Sound words out n → RunsAlone a (b .list) (b .state .k) false words out la outa → RunsAlone b (a .list) (a .state .k) true words outa lb outb →
         out′ ≡ withDevices 0 n outb → LogEnsures a b words out (record { answer = Accepted n; a = withState a la; b = withState b lb }) out′
     ran {n} s runs-a runs-b devices =
-        let da = a .list .values in
-        let db = b .list .values in
+        let da = a .list in
+        let db = b .list in
         let ra = runs-a (s .rs) (s .log) in
         let rb = runs-b (s .rs) (s .log) in
         let wa = wordsAlone false da db (a .state) (b .state .k) (s .rs) in

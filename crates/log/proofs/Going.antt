@@ -5,13 +5,14 @@ use mathlib.Core.List.{List, [], _∷_}
 use Prim.Native.Nat.{ℕ, _+_, _*_, _/_, _≤_, _<_}
 use native.Mathlib.Omega.{arith}
 use lib.ListN.{length, getD, set, length-set}
-use lib.IntN.{ℤ}
+use Rattle.machine_data.specs.declared.MachineData.{MachineData}
 use Rattle.words.proofs.Absurd.{never}
 use Rattle.channel.specs.declared.Channel.{Channel}
-use Rattle.channel.specs.declared.State.{State}
-use Rattle.channel.specs.declared.Given.{Given}
+use Rattle.state.specs.declared.State.{State}
+use Rattle.state.specs.declared.Given.{Given}
 use Rattle.channel.specs.declared.Advanced.{Advanced}
-use Rattle.channel.specs.Cycle.{nextK, next}
+use Rattle.report.specs.Report.{nextK}
+use Rattle.channel.specs.Cycle.{next}
 use Rattle.channel.specs.Word.{word}
 use Rattle.channel.specs.Ensures.{AdvanceEnsures}
 use Rattle.records.specs.declared.CycleRecord.{CycleRecord}
@@ -24,7 +25,7 @@ use Rattle.log.specs.Alone.{givenIn, lastAlone, wordsAlone, thirds}
 use Rattle.log.specs.Ensures.{Enough, RunsAlone}
 
 -- at a place of the words and of the output, with the state s and the other's k there
-pub record Going (second : Bool) (d e : List ℤ) (s₀ : State) (k₀ : ℕ) (words out₀ out : List ℕ) (s : State) (k at place : ℕ) : Type 0 where
+pub record Going (second : Bool) (d e : MachineData) (s₀ : State) (k₀ : ℕ) (words out₀ out : List ℕ) (s : State) (k at place : ℕ) : Type 0 where
   pub all : List CycleRecord
   pub rest : List CycleRecord
   pub log : logOf words ≡ records all
@@ -34,7 +35,7 @@ pub record Going (second : Bool) (d e : List ℤ) (s₀ : State) (k₀ : ℕ) (w
   pub count : place + 3 * length rest ≤ 1 + 3 * length all
   pub room : 3 * length all ≤ length out
 
-module _ {second : Bool} {d e : List ℤ} {s₀ : State} {k₀ : ℕ} {words out₀ : List ℕ} where
+module _ {second : Bool} {d e : MachineData} {s₀ : State} {k₀ : ℕ} {words out₀ : List ℕ} where
   pub starts : {place : ℕ} → Enough words out₀ → place ≡ cond second 1 0 → Going second d e s₀ k₀ words out₀ out₀ s₀ k₀ 0 place
   starts {place} h first =
       record {
@@ -105,7 +106,7 @@ module _ {second : Bool} {d e : List ℤ} {s₀ : State} {k₀ : ℕ} {words out
 
     -- t is the cycle as the machine has it, and the output has its word
     pub stepped : {given : Given} {t : Advanced} {k′ : ℕ} → at < length words → getD words at 0 / 268435456 ≡ 4 → given ≡ givenIn second e k (recordFrom words at) → AdvanceEnsures d s given t →
-        k′ ≡ nextK k → Going second d e s₀ k₀ words out₀ (set out place (t .word)) (t .state) k′ (at + 7) (place + 3)
+        k′ ≡ nextK (e .count) k → Going second d e s₀ k₀ words out₀ (set out place (t .word)) (t .state) k′ (at + 7) (place + 3)
     unfolding lastAlone wordsAlone thirds
     stepped {t = t} h kind is cycle rises =
         let r = recordFrom words at in
@@ -127,11 +128,11 @@ module _ {second : Bool} {d e : List ℤ} {s₀ : State} {k₀ : ℕ} {words out
         }
 
 -- at the end of the words
-pub ended : (c : Channel) {e : List ℤ} {k₀ : ℕ} {second : Bool} {words out₀ out : List ℕ} {s : State} {k at place : ℕ} →
-    Going second (c .list .values) e (c .state) k₀ words out₀ out s k at place → length words ≤ at → RunsAlone c e k₀ second words out₀ s out
+pub ended : (c : Channel) {e : MachineData} {k₀ : ℕ} {second : Bool} {words out₀ out : List ℕ} {s : State} {k at place : ℕ} →
+    Going second (c .list) e (c .state) k₀ words out₀ out s k at place → length words ≤ at → RunsAlone c e k₀ second words out₀ s out
 unfolding lastAlone wordsAlone thirds
 ended c {e} {k₀} {second} {words} {out₀} {out} {s} {k} {at} {place} g h rs log =
-    let d = c .list .values in
+    let d = c .list in
     let none : [] ≡ g .rest = empty (at-end words at (records (g .rest)) h (g .left)) in
     let all-is : g .all ≡ rs = same-records (sym (g .log) ∙ log) in (
       ap (lastAlone second d e s k) none ∙ g .last ∙ ap (lastAlone second d e (c .state) k₀) all-is,

@@ -3,12 +3,13 @@ use Prim.Native.Nat.{ℕ, zero, suc, _+_}
 use mathlib.Core.Bool.{Bool, not, cond}
 use mathlib.Core.List.{List, [], _∷_}
 use lib.ListN.{getD, set}
-use lib.IntN.{ℤ}
+use Rattle.machine_data.specs.declared.MachineData.{MachineData}
 use Rattle.inputs.specs.declared.Reading.{Reading}
 use Rattle.records.specs.declared.CycleRecord.{CycleRecord}
-use Rattle.channel.specs.declared.State.{State}
-use Rattle.channel.specs.declared.Given.{Given}
-use Rattle.channel.specs.Cycle.{nextK, next}
+use Rattle.state.specs.declared.State.{State}
+use Rattle.state.specs.declared.Given.{Given}
+use Rattle.report.specs.Report.{nextK}
+use Rattle.channel.specs.Cycle.{next}
 use Rattle.channel.specs.Word.{word}
 use Rattle.device.specs.Device.{deviceOf}
 use Rattle.log.specs.Run.{givenBy}
@@ -18,18 +19,18 @@ abbrev pub readingIn : Bool → CycleRecord → Reading
 readingIn second r = cond second (r .b) (r .a)
 
 -- what a record gives a channel, beside the other's data e and k
-abbrev pub givenIn : Bool → List ℤ → ℕ → CycleRecord → Given
+abbrev pub givenIn : Bool → MachineData → ℕ → CycleRecord → Given
 givenIn second e k r = givenBy e k (readingIn second r) (readingIn (not second) r) (r .acknowledged)
 
-module _ (second : Bool) (d e : List ℤ) where
+module _ (second : Bool) (d e : MachineData) where
   -- its state after some records, and its words: the other's k rises in every cycle
   unfoldable pub lastAlone : State → ℕ → List CycleRecord → State
   lastAlone s k [] = s
-  lastAlone s k (r ∷ rs) = lastAlone (next d s (givenIn second e k r)) (nextK k) rs
+  lastAlone s k (r ∷ rs) = lastAlone (next d s (givenIn second e k r)) (nextK (e .count) k) rs
 
   unfoldable pub wordsAlone : State → ℕ → List CycleRecord → List ℕ
   wordsAlone s k [] = []
-  wordsAlone s k (r ∷ rs) = word d s (givenIn second e k r) ∷ wordsAlone (next d s (givenIn second e k r)) (nextK k) rs
+  wordsAlone s k (r ∷ rs) = word d s (givenIn second e k r) ∷ wordsAlone (next d s (givenIn second e k r)) (nextK (e .count) k) rs
 
 -- words put at every third place, from one on
 unfoldable pub thirds : ℕ → List ℕ → List ℕ → List ℕ

@@ -4,9 +4,9 @@ use mathlib.Core.Path.{_≡_}
 use mathlib.Core.Bool.{Bool, cond}
 use mathlib.Core.List.{List}
 use lib.ListN.{length}
-use lib.IntN.{ℤ}
+use Rattle.machine_data.specs.declared.MachineData.{MachineData}
 use Rattle.channel.specs.declared.Channel.{Channel}
-use Rattle.channel.specs.declared.State.{State}
+use Rattle.state.specs.declared.State.{State}
 use Rattle.records.specs.declared.CycleRecord.{CycleRecord}
 use Rattle.records.specs.Records.{records, logOf}
 use Rattle.log.specs.declared.LogRun.{LogRun}
@@ -39,7 +39,7 @@ pub record Sound (words out : List ℕ) (cycles : ℕ) : Type 0 where
   pub short : length words ≤ 16384
 
 -- the records of a log are run in one channel: the state after them, and its words at every third place of the output
-abbrev pub RunsAlone : Channel → List ℤ → ℕ → Bool → List ℕ → List ℕ → State → List ℕ → Type 0
+abbrev pub RunsAlone : Channel → MachineData → ℕ → Bool → List ℕ → List ℕ → State → List ℕ → Type 0
 RunsAlone c e k second words out s out′ =
     (rs : List CycleRecord) → logOf words ≡ records rs →
-    (s ≡ lastAlone second (c .list .values) e (c .state) k rs) × (out′ ≡ thirds (cond second 1 0) (wordsAlone second (c .list .values) e (c .state) k rs) out)
+    (s ≡ lastAlone second (c .list) e (c .state) k rs) × (out′ ≡ thirds (cond second 1 0) (wordsAlone second (c .list) e (c .state) k rs) out)

@@ -3,22 +3,23 @@ use Prim.Native.Nat.{ℕ, _*_}
 use mathlib.Core.Bool.{Bool, cond}
 use mathlib.Core.List.{List, [], _∷_, _++_}
 use lib.ListN.{length, drop}
-use lib.IntN.{ℤ}
+use Rattle.machine_data.specs.declared.MachineData.{MachineData}
 use lib.Dec.{ltb}
 use Rattle.inputs.specs.declared.Reading.{Reading}
 use Rattle.records.specs.declared.CycleRecord.{CycleRecord}
 use Rattle.records.specs.Records.{LogRead, records, fault, logOf}
-use Rattle.channel.specs.declared.State.{State}
-use Rattle.channel.specs.declared.Given.{Given}
+use Rattle.state.specs.declared.State.{State}
+use Rattle.state.specs.declared.Given.{Given}
 use Rattle.channel.specs.declared.Channel.{Channel}
-use Rattle.channel.specs.Cycle.{reportOf, next}
+use Rattle.report.specs.Report.{reportOf}
+use Rattle.channel.specs.Cycle.{withState, next}
 use Rattle.channel.specs.Word.{word}
 use Rattle.device.specs.Device.{deviceOf}
 use Rattle.log.specs.declared.LogAnswer.{LogAnswer}
 use Rattle.log.specs.declared.LogAnswer.the-variants.{Accepted, Refused}
 
 -- what a record gives a channel: its own reading, and the other's report, "datum k by the data and k of the channel given"
-abbrev pub givenBy : List ℤ → ℕ → Reading → Reading → Bool → Given
+abbrev pub givenBy : MachineData → ℕ → Reading → Reading → Bool → Given
 givenBy d k own other ack = record { reading = own; acknowledged = ack; report = reportOf d k other }
 
 -- the states of the two channels
@@ -27,13 +28,13 @@ pub record Both : Type 0 where
   pub b : State
 
 -- a cycle of both channels: the states after it, and its three words
-pub record Turn : Type 0 where
+pub record DeviceCycle : Type 0 where
   pub both : Both
   pub a : ℕ
   pub b : ℕ
   pub device : ℕ
 
-module _ (da db : List ℤ) where
+module _ (da db : MachineData) where
   -- both reports are from before the cycle
   abbrev pub givenA : Both → CycleRecord → Given
   givenA x r = givenBy db (x .b .k) (r .a) (r .b) (r .acknowledged)
@@ -42,8 +43,8 @@ module _ (da db : List ℤ) where
   givenB x r = givenBy da (x .a .k) (r .b) (r .a) (r .acknowledged)
 
   -- "each cycle puts A's word, B's word and the device word into the output"
-  unfoldable pub turnOf : Both → CycleRecord → Turn
-  turnOf x r =
+  unfoldable pub deviceCycle : Both → CycleRecord → DeviceCycle
+  deviceCycle x r =
       record {
         both = record { a = next da (x .a) (givenA x r); b = next db (x .b) (givenB x r) };
         a = word da (x .a) (givenA x r);
@@ -51,23 +52,20 @@ module _ (da db : List ℤ) where
         device = deviceOf (word da (x .a) (givenA x r)) (word db (x .b) (givenB x r));
       }
 
-  abbrev pub lineOf : Turn → List ℕ
+  abbrev pub lineOf : DeviceCycle → List ℕ
   lineOf t = t .a ∷ t .b ∷ t .device ∷ []
 
   -- the states after a run, and its words
   unfoldable pub lastOf : Both → List CycleRecord → Both
   lastOf x [] = x
-  lastOf x (r ∷ rs) = lastOf (turnOf x r .both) rs
+  lastOf x (r ∷ rs) = lastOf (deviceCycle x r .both) rs
 
   unfoldable pub linesOf : Both → List CycleRecord → List ℕ
   linesOf x [] = []
-  linesOf x (r ∷ rs) = lineOf (turnOf x r) ++ linesOf (turnOf x r .both) rs
+  linesOf x (r ∷ rs) = lineOf (deviceCycle x r) ++ linesOf (deviceCycle x r .both) rs
 
 abbrev pub bothOf : Channel → Channel → Both
 bothOf a b = record { a = a .state; b = b .state }
-
-abbrev pub withState : Channel → State → Channel
-withState c s = record { list = c .list; state = s }
 
 -- what a log leaves: the answer, both channels, and the output
 pub record Ran : Type 0 where
@@ -83,12 +81,12 @@ refusing a b out number place = record { answer = Refused number place; a = a; b
 -- "from its front on; the output words behind them are not touched. The number of cycles and both channels come back"
 abbrev pub running : Channel → Channel → List ℕ → List CycleRecord → Ran
 running a b out rs =
-    let last = lastOf (a .list .values) (b .list .values) (bothOf a b) rs in
+    let last = lastOf (a .list) (b .list) (bothOf a b) rs in
     record {
       answer = Accepted (length rs);
       a = withState a (last .a);
       b = withState b (last .b);
-      out = linesOf (a .list .values) (b .list .values) (bothOf a b) rs ++ drop (3 * length rs) out;
+      out = linesOf (a .list) (b .list) (bothOf a b) rs ++ drop (3 * length rs) out;
     }
 
 -- "output below 3 words a cycle": 7, the words wanted; "6 before 7"

@@ -3,15 +3,16 @@ ghost use mathlib.Core.Path.{_≡_};
 ghost use mathlib.Core.Bool.{cond};
 ghost use Prim.Native.Nat.{_+_, _≤_, _*_};
 ghost use lib.ListN.{length};
+ghost use Rattle.machine_data.specs.Data.{lent};
 ghost use Rattle.records.specs.Seven.{recordFrom};
 ghost use Rattle.log.specs.Alone.{readingIn, givenIn, withDevices};
 ghost use Rattle.log.specs.Ensures.{LogEnsures, refusedRun, Enough, Sound, RunsAlone};
 use channel::Channel;
-use channel::Given;
-use channel::State;
 use inputs::Reading;
 use machine_data::Values;
 use records::Scan;
+use state::Given;
+use state::State;
 
 pub enum LogAnswer {
     // how many cycles were run
@@ -40,14 +41,14 @@ fn reading_at(words: &[u32], at: usize, second: bool) -> Reading
 }
 
 // What that record gives a channel: its own reading, and the other's report by the other's k.
-fn given_at(words: &[u32], at: usize, second: bool, other: &Values, k: u8) -> Given
+fn given_at(words: &[u32], at: usize, second: bool, other: &Values, count: usize, k: u8) -> Given
     requires { ⌜ at + 7 ≤ length (now words) ⌝ }
-    ensures { λ r. ⌜ r ≡ givenIn second (now (other .entry)) k (recordFrom (now (words .entry)) at) ⌝ }
+    ensures { λ r. ⌜ r ≡ givenIn second (lent (now (other .entry)) count) k (recordFrom (now (words .entry)) at) ⌝ }
 {
     Given {
         reading: reading_at(words, at, second),
         acknowledged: words[at + 6] % 2 == 1,
-        report: channel::report(other, k, reading_at(words, at, !second)),
+        report: report::report_of(other, count, k, reading_at(words, at, !second)),
     }
 }
 
@@ -64,13 +65,14 @@ fn first_place(second: bool) -> usize
 fn run_channel(
     own: Channel,
     other: &Values,
+    count: usize,
     k: u8,
     second: bool,
     words: &[u32],
     out: &mut [u32],
 ) -> State
     requires { ⌜ Enough (now words) (now out) ⌝ }
-    ensures { λ r. ⌜ RunsAlone own (now (other .entry)) k second (now (words .entry)) (now (out .entry)) r (now (out .exit)) ⌝ }
+    ensures { λ r. ⌜ RunsAlone own (lent (now (other .entry)) count) k second (now (words .entry)) (now (out .entry)) r (now (out .exit)) ⌝ }
 {
     let list = own.list;
     let mut state = own.state;
@@ -79,12 +81,12 @@ fn run_channel(
     let mut next = first_place(second);
     while at < words.len() {
         if records::begins_record(words[at]) {
-            let given = given_at(words, at, second, other, reported);
-            let after = channel::advance(&list.values, state, given);
+            let given = given_at(words, at, second, other, count, reported);
+            let after = channel::advance(&list.values, list.count, state, given);
             out[next] = after.word;
             let reached = after.state;
             state = reached;
-            reported = channel::next_k(reported);
+            reported = report::next_k(count, reported);
             at += 7;
             next += 3;
         } else {
@@ -127,19 +129,13 @@ fn accepted(a: Channel, b: Channel, words: &[u32], out: &mut [u32], cycles: usiz
     let mb = b.list;
     let sa = a.state;
     let sb = b.state;
-    let la = run_channel(a, &mb.values, sb.k, false, words, out);
-    let lb = run_channel(b, &ma.values, sa.k, true, words, out);
+    let la = run_channel(a, &mb.values, mb.count, sb.k, false, words, out);
+    let lb = run_channel(b, &ma.values, ma.count, sa.k, true, words, out);
     put_devices(out, cycles);
     LogRun {
         answer: LogAnswer::Accepted(cycles),
-        a: Channel {
-            list: ma,
-            state: la,
-        },
-        b: Channel {
-            list: mb,
-            state: lb,
-        },
+        a: channel::with_state(a, la),
+        b: channel::with_state(b, lb),
     }
 }
 

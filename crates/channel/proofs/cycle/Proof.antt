@@ -43,7 +43,7 @@ returns : tie.Need-returns
 returns c = let a = c .before .before .before .before .before .before .before .before .before .before .before .before .before .before .before .before .args in let m = a .channel .list in let s = a .channel .state in
     let u : usableOf m (a .given .reading) ≡ true = sym (c .before .before .before .before .before .before .before .before .before .before .before .usable .ensures) ∙ c .before .before .before .before .before .before .before .before .before .before .if1 .taken in
     let e : AdvanceEnsures m s (a .given) (c .before .before .before .found .result) =
-        subst (AdvanceEnsures m s (a .given)) (sym (c .before .before .before .found .ensures ∙ ap (advancedBy m s (a .given)) (c .before .before .before .before .before .before .before .judge .ensures))) (usable-cycle m s (a .given) u) in
+    subst (AdvanceEnsures m s (a .given)) (sym (c .before .before .before .found .ensures ∙ ap (advancedBy m s (a .given)) (c .before .before .before .before .before .before .before .judge .ensures))) (usable-cycle m s (a .given) u) in
     record {
       channel = c .before .with-state .ensures ∙ ap (withState (a .channel)) (e .state);
       word-is = e .word-is;

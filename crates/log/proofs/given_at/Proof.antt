@@ -1,43 +1,37 @@
+-- `log::given_at` meets its contract. Assumes nothing.
 use borrow.Author.Needs.{needs}
 use Rattle.log.proofs.given_at.Statement.{statement}
 use Rattle.log.proofs.given_at.Tie as tie
 
--- src/lib.rt:46:18
 reading-at-requires : tie.Need-reading-at-requires
 reading-at-requires c κs = search needs
 
--- src/lib.rt:47:29
-add-t7 : tie.Need-add-t7
-add-t7 c = search needs
+add-t8 : tie.Need-add-t8
+add-t8 c = search needs
 
--- src/lib.rt:47:23
-mul-t8 : tie.Need-mul-t8
-mul-t8 c = search needs
+mul-t9 : tie.Need-mul-t9
+mul-t9 c = search needs
 
--- src/lib.rt:47:23
-shared-slice-read-t10 : tie.Need-shared-slice-read-t10
-shared-slice-read-t10 c = search needs
+shared-slice-read-t11 : tie.Need-shared-slice-read-t11
+shared-slice-read-t11 c = search needs
 
--- src/lib.rt:48:43
 reading-at-requires-2 : tie.Need-reading-at-requires-2
 reading-at-requires-2 c κs = search needs
 
--- src/lib.rt:48:17
-report-requires : tie.Need-report-requires
-report-requires c κs = search needs
+report-of-requires : tie.Need-report-of-requires
+report-of-requires c κs = search needs
 
--- src/lib.rt:41:1
 returns : tie.Need-returns
-returns c = simp (c .report .ensures, c .before .reading-at2 .ensures, c .before .before .before .reading-at .ensures)
+returns c = simp (c .report-of .ensures, c .before .reading-at2 .ensures, c .before .before .before .reading-at .ensures)
 
 pub given-at-spec : {M : Type 1} → statement M
 given-at-spec =
     tie.close
     (tie.spec
     reading-at-requires
-    add-t7
-    mul-t8
-    shared-slice-read-t10
+    add-t8
+    mul-t9
+    shared-slice-read-t11
     reading-at-requires-2
-    report-requires
+    report-of-requires
     returns)

@@ -9,7 +9,8 @@ use Rattle.numerals.specs.Numerals.{digits, width}
 use Rattle.numerals.specs.Written.{splice, written}
 use Rattle.numerals.proofs.Laws.{length-digits}
 use Rattle.numerals.proofs.Splices.{store-splice, length-splice, written-room, splice-behind}
-use Rattle.lines.specs.Lines.{spaced, ended, line, refusedWord, refusal}
+use Rattle.lines.specs.declared.Line.{Line}
+use Rattle.lines.specs.Lines.{spaced, ended, cycleLine, refusedWord, refusalLine}
 use Rattle.lines.proofs.Sizes.{line-room, refusal-room}
 
 -- a text behind what stands there already, at a place that is its end
@@ -60,23 +61,23 @@ digits-end : (base many n end : ℕ) → length (digits base many n ++ end ∷ [
 digits-end base many n end = length-append (digits base many n) (end ∷ []) ∙ ap (λ (k : ℕ). k + 1) (length-digits base many n)
 
 -- the fields of a line, as they are put
-module _ (at cycle a b device : ℕ) (l : List ℕ) (room : at + length (line cycle a b device) ≤ length l) {m w : ℕ} (wide : m ≡ width 10 cycle) (device-wide : w ≡ width 16 device) where
-  pub line-put : {one two three all : List ℕ} → one ≡ splice at (digits 10 m cycle ++ 32 ∷ []) l → two ≡ splice (at + m + 1) (digits 16 8 a ++ 32 ∷ []) one →
-      three ≡ splice (at + m + 1 + 9) (digits 16 8 b ++ 32 ∷ []) two → all ≡ splice (at + m + 1 + 18) (digits 16 w device ++ 10 ∷ []) three → all ≡ splice at (line cycle a b device) l
+module _ (at : ℕ) (x : Line) (l : List ℕ) (room : at + length (cycleLine x) ≤ length l) {m w : ℕ} (wide : m ≡ width 10 (x .cycle)) (device-wide : w ≡ width 16 (x .device)) where
+  pub line-put : {one two three all : List ℕ} → one ≡ splice at (digits 10 m (x .cycle) ++ 32 ∷ []) l → two ≡ splice (at + m + 1) (digits 16 8 (x .a) ++ 32 ∷ []) one →
+      three ≡ splice (at + m + 1 + 9) (digits 16 8 (x .b) ++ 32 ∷ []) two → all ≡ splice (at + m + 1 + 18) (digits 16 w (x .device) ++ 10 ∷ []) three → all ≡ splice at (cycleLine x) l
   line-put e f g h =
-      let c = digits-end 10 m cycle 32 in
-      let x = digits-end 16 8 a 32 in
-      let y = digits-end 16 8 b 32 in
-      let z = digits-end 16 w device 10 in
-      four-put at l (digits 10 m cycle ++ 32 ∷ []) (digits 16 8 a ++ 32 ∷ []) (digits 16 8 b ++ 32 ∷ []) (digits 16 w device ++ 10 ∷ []) (at + m + 1) (at + m + 1 + 9) (at + m + 1 + 18) e f g h
-      (omega (arith, c)) (omega (arith, x)) (omega (arith, y)) (omega (arith, z, line-room at cycle a b device l room wide))
-      ∙ ap (λ (t : List ℕ). splice at t l) (spaced-fields (digits 10 m cycle) (digits 16 8 a) (digits 16 8 b) (digits 16 w device ++ 10 ∷ [])
-      ∙ (λ i. spaced (digits 10 (wide i) cycle) (spaced (digits 16 8 a) (spaced (digits 16 8 b) (ended (digits 16 (device-wide i) device))))))
+      let c = digits-end 10 m (x .cycle) 32 in
+      let a = digits-end 16 8 (x .a) 32 in
+      let b = digits-end 16 8 (x .b) 32 in
+      let d = digits-end 16 w (x .device) 10 in
+      four-put at l (digits 10 m (x .cycle) ++ 32 ∷ []) (digits 16 8 (x .a) ++ 32 ∷ []) (digits 16 8 (x .b) ++ 32 ∷ []) (digits 16 w (x .device) ++ 10 ∷ []) (at + m + 1) (at + m + 1 + 9) (at + m + 1 + 18) e f g h
+      (omega (arith, c)) (omega (arith, a)) (omega (arith, b)) (omega (arith, d, line-room at x l room wide))
+      ∙ ap (λ (t : List ℕ). splice at t l) (spaced-fields (digits 10 m (x .cycle)) (digits 16 8 (x .a)) (digits 16 8 (x .b)) (digits 16 w (x .device) ++ 10 ∷ [])
+      ∙ (λ i. spaced (digits 10 (wide i) (x .cycle)) (spaced (digits 16 8 (x .a)) (spaced (digits 16 8 (x .b)) (ended (digits 16 (device-wide i) (x .device)))))))
 
 -- the same of a refusal
-module _ (number place letter : ℕ) (l : List ℕ) (room : 0 + length (refusal number place letter) ≤ length l) {m w : ℕ} (wide : m ≡ width 10 number) (place-wide : w ≡ width 10 place) where
+module _ (number place letter : ℕ) (l : List ℕ) (room : 0 + length (refusalLine number place letter) ≤ length l) {m w : ℕ} (wide : m ≡ width 10 number) (place-wide : w ≡ width 10 place) where
   pub refusal-put : {one two three all : List ℕ} → one ≡ splice 0 (refusedWord ++ 32 ∷ []) l → two ≡ splice 8 (digits 10 m number ++ 32 ∷ []) one →
-      three ≡ splice (9 + m) (digits 10 w place ++ 32 ∷ []) two → all ≡ splice (10 + m + w) (ended (letter ∷ [])) three → all ≡ splice 0 (refusal number place letter) l
+      three ≡ splice (9 + m) (digits 10 w place ++ 32 ∷ []) two → all ≡ splice (10 + m + w) (ended (letter ∷ [])) three → all ≡ splice 0 (refusalLine number place letter) l
   refusal-put e f g h =
       let x = digits-end 10 m number 32 in
       let y = digits-end 10 w place 32 in

@@ -2,6 +2,7 @@
 use Prim.Native.Nat.{ℕ}
 use mathlib.Core.List.{List, [], _∷_, _++_}
 use Rattle.numerals.specs.Numerals.{digits, numeral}
+use Rattle.lines.specs.declared.Line.{Line}
 
 -- "Fields stand one space apart"
 abbrev pub spaced : List ℕ → List ℕ → List ℕ
@@ -12,12 +13,12 @@ abbrev pub ended : List ℕ → List ℕ
 ended field = field ++ 10 ∷ []
 
 -- "channel words 8 digits, device word without leading zeros"
-abbrev pub wordFields : ℕ → ℕ → ℕ → List ℕ
-wordFields a b device = spaced (digits 16 8 a) (spaced (digits 16 8 b) (ended (numeral 16 device)))
+abbrev pub wordFields : Line → List ℕ
+wordFields l = spaced (digits 16 8 (l .a)) (spaced (digits 16 8 (l .b)) (ended (numeral 16 (l .device))))
 
 -- "cycle decimal"
-abbrev pub line : ℕ → ℕ → ℕ → ℕ → List ℕ
-line cycle a b device = spaced (numeral 10 cycle) (wordFields a b device)
+abbrev pub cycleLine : Line → List ℕ
+cycleLine l = spaced (numeral 10 (l .cycle)) (wordFields l)
 
 -- "`refused`"
 abbrev pub refusedWord : List ℕ
@@ -28,5 +29,5 @@ abbrev pub refusalFields : ℕ → ℕ → ℕ → List ℕ
 refusalFields number place letter = spaced (numeral 10 number) (spaced (numeral 10 place) (ended (letter ∷ [])))
 
 -- "A refusal prints only one line"
-abbrev pub refusal : ℕ → ℕ → ℕ → List ℕ
-refusal number place letter = spaced refusedWord (refusalFields number place letter)
+abbrev pub refusalLine : ℕ → ℕ → ℕ → List ℕ
+refusalLine number place letter = spaced refusedWord (refusalFields number place letter)

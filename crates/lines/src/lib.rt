@@ -3,42 +3,69 @@ ghost use mathlib.Core.Path.{_≡_};
 ghost use mathlib.Core.List.{_∷_, [], _++_};
 ghost use Prim.Native.Nat.{_+_, _≤_};
 ghost use lib.ListN.{length};
-ghost use Rattle.numerals.specs.Numerals.{digits, width};
+ghost use Rattle.numerals.specs.Numerals.{radix, digits as Numerals·digits, width as Numerals·width};
 ghost use Rattle.numerals.specs.Written.{splice, written};
-ghost use Rattle.lines.specs.Lines.{ended, line, refusedWord, refusal};
-use numerals::decimal_width;
+ghost use Rattle.lines.specs.Lines.{ended, cycleLine, refusedWord, refusalLine};
+use numerals::Base;
+use numerals::Span;
 use numerals::has_room;
-use numerals::hex_width;
-use numerals::put_decimal;
-use numerals::put_hex;
+use numerals::put_digits;
+use numerals::width;
+
+// A cycle and its three words.
+pub struct Line {
+    pub cycle: usize,
+    pub a: u32,
+    pub b: u32,
+    pub device: u32,
+}
 
 // A number's digits, and the byte that ends them.
-fn decimal_field(out: &mut [u8], at: usize, many: usize, n: usize, end: u8)
-    requires { ⌜ at + many + 1 ≤ length (now out) ⌝ }
-    ensures { λ _. ⌜ now (out .exit) ≡ splice at (digits 10 many n ++ end ∷ []) (now (out .entry)) ⌝ }
+fn put_field(out: &mut [u8], digits: Span, n: usize, base: Base, end: u8)
+    requires { ⌜ digits .at + digits .many + 1 ≤ length (now out) ⌝ }
+    ensures { λ _. ⌜ now (out .exit) ≡ splice (digits .at) (Numerals·digits (radix base) (digits .many) n ++ end ∷ []) (now (out .entry)) ⌝ }
 {
-    put_decimal(out, at, many, n);
-    out[at + many] = end;
+    put_digits(out, digits, n, base);
+    let behind = digits.at + digits.many;
+    out[behind] = end;
 }
 
-fn hex_field(out: &mut [u8], at: usize, many: usize, n: u32, end: u8)
-    requires { ⌜ at + many + 1 ≤ length (now out) ⌝ }
-    ensures { λ _. ⌜ now (out .exit) ≡ splice at (digits 16 many n ++ end ∷ []) (now (out .entry)) ⌝ }
+fn put_fields(out: &mut [u8], at: usize, line: Line)
+    requires { ⌜ at + length (cycleLine line) ≤ length (now out) ⌝ }
+    ensures { λ _. ⌜ now (out .exit) ≡ splice at (cycleLine line) (now (out .entry)) ⌝ }
 {
-    put_hex(out, at, many, n);
-    out[at + many] = end;
-}
-
-fn put_fields(out: &mut [u8], at: usize, cycle: usize, a: u32, b: u32, device: u32)
-    requires { ⌜ at + length (line cycle a b device) ≤ length (now out) ⌝ }
-    ensures { λ _. ⌜ now (out .exit) ≡ splice at (line cycle a b device) (now (out .entry)) ⌝ }
-{
-    let many = decimal_width(cycle);
-    decimal_field(out, at, many, cycle, b' ');
+    let many = width(line.cycle, Base::Decimal);
+    put_field(out, Span { at, many }, line.cycle, Base::Decimal, b' ');
     let words = at + many + 1;
-    hex_field(out, words, 8, a, b' ');
-    hex_field(out, words + 9, 8, b, b' ');
-    hex_field(out, words + 18, hex_width(device), device, b'\n');
+    put_field(
+        out,
+        Span { at: words, many: 8 },
+        line.a as usize,
+        Base::Hexadecimal,
+        b' ',
+    );
+    put_field(
+        out,
+        Span {
+            at: words + 9,
+            many: 8,
+        },
+        line.b as usize,
+        Base::Hexadecimal,
+        b' ',
+    );
+    let device = line.device as usize;
+    let last = width(device, Base::Hexadecimal);
+    put_field(
+        out,
+        Span {
+            at: words + 18,
+            many: last,
+        },
+        device,
+        Base::Hexadecimal,
+        b'\n',
+    );
 }
 
 fn put_refused_word(out: &mut [u8])
@@ -64,51 +91,66 @@ fn put_letter(out: &mut [u8], at: usize, letter: u8)
 }
 
 fn put_refused(out: &mut [u8], number: u32, place: usize, letter: u8)
-    requires { ⌜ 0 + length (refusal number place letter) ≤ length (now out) ⌝ }
-    ensures { λ _. ⌜ now (out .exit) ≡ splice 0 (refusal number place letter) (now (out .entry)) ⌝ }
+    requires { ⌜ 0 + length (refusalLine number place letter) ≤ length (now out) ⌝ }
+    ensures { λ _. ⌜ now (out .exit) ≡ splice 0 (refusalLine number place letter) (now (out .entry)) ⌝ }
 {
     put_refused_word(out);
-    let many = decimal_width(number as usize);
-    decimal_field(out, 8, many, number as usize, b' ');
-    let behind = decimal_width(place);
-    decimal_field(out, 9 + many, behind, place, b' ');
+    let many = width(number as usize, Base::Decimal);
+    put_field(
+        out,
+        Span { at: 8, many },
+        number as usize,
+        Base::Decimal,
+        b' ',
+    );
+    let behind = width(place, Base::Decimal);
+    put_field(
+        out,
+        Span {
+            at: 9 + many,
+            many: behind,
+        },
+        place,
+        Base::Decimal,
+        b' ',
+    );
     put_letter(out, 10 + many + behind, letter);
 }
 
-pub fn line_length(cycle: usize, a: u32, b: u32, device: u32) -> usize
-    ensures { λ r. ⌜ r ≡ length (line cycle a b device) ⌝ }
-    ensures { λ r. ⌜ r ≤ width 10 cycle + 28 ⌝ }
+pub fn line_length(line: Line) -> usize
+    ensures { λ r. ⌜ r ≡ length (cycleLine line) ⌝ }
+    ensures { λ r. ⌜ r ≤ Numerals·width 10 (line .cycle) + 28 ⌝ }
 {
-    decimal_width(cycle) + hex_width(device) + 20
+    width(line.cycle, Base::Decimal) + width(line.device as usize, Base::Hexadecimal) + 20
 }
 
 fn refusal_length(number: u32, place: usize, letter: u8) -> usize
-    ensures { λ r. ⌜ r ≡ length (refusal number place letter) ⌝ }
+    ensures { λ r. ⌜ r ≡ length (refusalLine number place letter) ⌝ }
     ensures { λ r. ⌜ r ≤ 52 ⌝ }
 {
-    decimal_width(number as usize) + decimal_width(place) + 12
+    width(number as usize, Base::Decimal) + width(place, Base::Decimal) + 12
 }
 
 // A cycle's line from a place on, where it fits; its length.
-pub fn put_line(out: &mut [u8], at: usize, cycle: usize, a: u32, b: u32, device: u32) -> usize
-    ensures { λ r. ⌜ r ≡ length (line cycle a b device) ⌝ }
-    ensures { λ _. ⌜ now (out .exit) ≡ written at (line cycle a b device) (now (out .entry)) ⌝ }
+pub fn put_line(out: &mut [u8], at: usize, line: Line) -> usize
+    ensures { λ r. ⌜ r ≡ length (cycleLine line) ⌝ }
+    ensures { λ _. ⌜ now (out .exit) ≡ written at (cycleLine line) (now (out .entry)) ⌝ }
 {
-    let bytes = line_length(cycle, a, b, device);
-    if has_room(out.len(), at, bytes) {
-        put_fields(out, at, cycle, a, b, device);
+    let bytes = line_length(line);
+    if has_room(out.len(), Span { at, many: bytes }) {
+        put_fields(out, at, line);
     }
     bytes
 }
 
 // A refusal's line at the buffer's front, where it fits; its length.
 pub fn put_refusal(out: &mut [u8], number: u32, place: usize, letter: u8) -> usize
-    ensures { λ r. ⌜ r ≡ length (refusal number place letter) ⌝ }
-    ensures { λ _. ⌜ now (out .exit) ≡ written 0 (refusal number place letter) (now (out .entry)) ⌝ }
+    ensures { λ r. ⌜ r ≡ length (refusalLine number place letter) ⌝ }
+    ensures { λ _. ⌜ now (out .exit) ≡ written 0 (refusalLine number place letter) (now (out .entry)) ⌝ }
     ensures { λ r. ⌜ r ≤ 52 ⌝ }
 {
     let bytes = refusal_length(number, place, letter);
-    if has_room(out.len(), 0, bytes) {
+    if has_room(out.len(), Span { at: 0, many: bytes }) {
         put_refused(out, number, place, letter);
     }
     bytes

@@ -1,4 +1,2 @@
-pub mod Steps
-pub mod Going
 pub mod Told
 pub mod Texts

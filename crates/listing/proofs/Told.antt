@@ -1,10 +1,10 @@
 -- The text for a run's answer is the kit's text, where the output has room for every log. Assumes nothing.
-use mathlib.Core.Path.{_≡_, refl, ap}
-use mathlib.Core.List.{List}
+use mathlib.Core.Path.{_≡_, refl, ap, _∙_}
+use mathlib.Core.List.{List, _++_}
 use Prim.Native.Nat.{ℕ, _*_, _/_, _≤_}
 use native.Mathlib.Omega.{arith}
-use lib.ListN.{length, drop, length-drop, length-append}
-use lib.Seq.{take-at}
+use lib.ListN.{length, take, drop, length-drop, length-append}
+use lib.Seq.{take-at, take-all}
 use borrow.Author.Tests.{le-ltb}
 use Rattle.kit.specs.declared.KitAnswer as K
 use Rattle.kit.specs.Kit.{readKit}
@@ -14,7 +14,8 @@ use Rattle.machine_data.specs.declared.MachineData.{MachineData}
 use Rattle.log.specs.Run.{linesOf, bothOf, byRecords, ranOf}
 use Rattle.kit_run.specs.KitRun.{KitRan, ofLog, byKit, kitRan}
 use Rattle.kit_run.proofs.Cycles.{seven-words, three-words}
-use Rattle.listing.specs.Listing.{linesFrom, byLog, byLists, ofWords, answerText, cyclesOf}
+use Rattle.run_text.specs.RunText.{linesFrom}
+use Rattle.listing.specs.Listing.{byLog, byLists, ofWords, answerText, cyclesOf}
 
 -- what is told of a run: its text, and that its words are there
 abbrev pub Told : List ℕ → List ℕ → KitRan → Type 0
@@ -28,8 +29,9 @@ module _ (out : List ℕ) where
         let seven = seven-words words rs e in
         let lines = linesOf (a .values) (b .values) (bothOf (freshChannel a) (freshChannel b)) rs in
         let three : length lines ≡ 3 * length rs = three-words (a .values) (b .values) (bothOf (freshChannel a) (freshChannel b)) rs in
+        let first : take (3 * length rs) (lines ++ drop (3 * length rs) out) ≡ lines = take-at lines (drop (3 * length rs) out) (3 * length rs) three in
         simp (le-ltb (length out) (3 * length rs) (omega (arith, seven, room))) (
-          ap (linesFrom 1) (take-at lines (drop (3 * length rs) out) (3 * length rs) three),
+          ap (linesFrom 1) (ap (take 7020) first ∙ take-all 7020 lines (omega (arith, three, seven, short))),
           omega (arith, length-append lines (drop (3 * length rs) out), three),
           omega (arith, length-append lines (drop (3 * length rs) out), three, length-drop (3 * length rs) out, seven, room),
         )

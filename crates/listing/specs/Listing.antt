@@ -1,9 +1,9 @@
 -- The bench's text for a kit's bytes: document 01, "The bench program".
-use Prim.Native.Nat.{_/_, ℕ, suc, _+_, _*_, _%_, _≤_}
-use mathlib.Core.Bool.{Bool, cond, _&&_}
-use mathlib.Core.List.{List, [], _∷_, _++_}
+use Prim.Native.Nat.{ℕ, _*_, _/_, _%_, _≤_}
+use mathlib.Core.Path.{_≡_}
+use mathlib.Core.Bool.{cond}
+use mathlib.Core.List.{List}
 use lib.ListN.{length, take, drop}
-use lib.Dec.{leb, eqb}
 use Rattle.machine_data.specs.declared.MachineData.{MachineData}
 use Rattle.kit.specs.declared.KitRead.{KitRead}
 use Rattle.kit.specs.declared.KitAnswer as K
@@ -13,7 +13,9 @@ use Rattle.channel.specs.Cycle.{freshChannel}
 use Rattle.log.specs.Run.{linesOf, bothOf}
 use Rattle.kit_run.specs.declared.Part as P
 use Rattle.kit_run.specs.declared.KitRun as R
-use Rattle.lines.specs.Lines.{line, refusal}
+use Rattle.kit_bytes.specs.KitBytes.{wholeWords, wordsOf}
+use Rattle.lines.specs.Lines.{refusalLine}
+use Rattle.run_text.specs.RunText.{linesFrom, runText}
 
 -- "A, B or L"
 abbrev pub letterOf : P.Part → ℕ
@@ -21,45 +23,23 @@ letterOf P.the-variants.ListA = 65
 letterOf P.the-variants.ListB = 66
 letterOf P.the-variants.Log = 76
 
--- "words most significant byte first"
-abbrev pub wordOf : ℕ → ℕ → ℕ → ℕ → ℕ
-wordOf a b c d = a * 16777216 + b * 65536 + c * 256 + d
-
-unfoldable pub wordsOf : List ℕ → List ℕ
-wordsOf (a ∷ b ∷ c ∷ d ∷ rest) = wordOf a b c d ∷ wordsOf rest
-wordsOf [] = []
-wordsOf (a ∷ []) = []
-wordsOf (a ∷ b ∷ []) = []
-wordsOf (a ∷ b ∷ c ∷ []) = []
-
--- a line for each three words of a run, from a cycle's number on
-unfoldable pub linesFrom : ℕ → List ℕ → List ℕ
-linesFrom cycle (a ∷ b ∷ device ∷ rest) = line cycle a b device ++ linesFrom (suc cycle) rest
-linesFrom cycle [] = []
-linesFrom cycle (a ∷ []) = []
-linesFrom cycle (a ∷ b ∷ []) = []
-
 -- the log's text: "the cycle from 1", or its refusal. A kit's log is never over 16,384 words, and the bench has room for it, so there is no 7
 abbrev pub byLog : MachineData → MachineData → LogRead → List ℕ
 byLog a b (records rs) = linesFrom 1 (linesOf (a .values) (b .values) (bothOf (freshChannel a) (freshChannel b)) rs)
-byLog a b (fault place) = refusal 6 place (letterOf P.the-variants.Log)
+byLog a b (fault place) = refusalLine 6 place (letterOf P.the-variants.Log)
 
 abbrev pub byLists : List ℕ → KitRead → K.KitAnswer → List ℕ
 byLists words r (K.the-variants.Accepted at) = byLog (r .a) (r .b) (logOf (drop at words))
-byLists words r (K.the-variants.RefusedA number place) = refusal number place (letterOf P.the-variants.ListA)
-byLists words r (K.the-variants.RefusedB number place) = refusal number place (letterOf P.the-variants.ListB)
+byLists words r (K.the-variants.RefusedA number place) = refusalLine number place (letterOf P.the-variants.ListA)
+byLists words r (K.the-variants.RefusedB number place) = refusalLine number place (letterOf P.the-variants.ListB)
 
 -- "It reads a kit (list A, list B, log; .."
 unfoldable pub ofWords : List ℕ → List ℕ
 ofWords words = byLists words (readKit words) (readKit words .answer)
 
--- "at most 65,536 bytes in whole words"
-abbrev pub wholeWords : ℕ → Bool
-wholeWords bytes = leb bytes 65_536 && eqb (bytes % 4) 0
-
 -- "else number 6, place 0, L"
 unfoldable pub listed : List ℕ → List ℕ
-listed bytes = cond (wholeWords (length bytes)) (ofWords (wordsOf bytes)) (refusal 6 0 (letterOf P.the-variants.Log))
+listed bytes = cond (wholeWords (length bytes)) (ofWords (wordsOf bytes)) (refusalLine 6 0 (letterOf P.the-variants.Log))
 
 -- how many cycles a kit's run has; a refused kit has none
 abbrev pub cyclesOf : R.KitRun → ℕ
@@ -70,13 +50,17 @@ cyclesOf (R.the-variants.Refused number place part) = 0
 
 -- the text for a run's answer and the words that it left
 abbrev pub answerText : R.KitRun → List ℕ → List ℕ
-answerText (R.the-variants.Ran cycles) words = linesFrom 1 (take (3 * cycles) words)
-answerText (R.the-variants.Refused number place part) words = refusal number place (letterOf part)
+answerText (R.the-variants.Ran cycles) words = runText (take (3 * cycles) words)
+answerText (R.the-variants.Refused number place part) words = refusalLine number place (letterOf part)
 
 -- the run's words are there, and no more than 2,340 cycles
 abbrev pub HasCycles : R.KitRun → List ℕ → Type 0
 HasCycles answer words = (3 * cyclesOf answer ≤ length words) × (length words ≤ 7020)
 
 -- room for a kit's words, and for the words of as many cycles as its log can have
-abbrev pub Rooms : List ℕ → List ℕ → Type 0
-Rooms words ran = (length words ≤ 16384) × (3 * (length words / 7) ≤ length ran) × (length ran ≤ 7020)
+pub record Rooms (kit words ran : List ℕ) : Type 0 where
+  pub whole : length kit % 4 ≡ 0
+  pub short : length kit ≤ 65_536
+  pub for-words : length kit ≤ 4 * length words
+  pub for-cycles : 3 * (length kit / 28) ≤ length ran
+  pub few-cycles : length ran ≤ 7020

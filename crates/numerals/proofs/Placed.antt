@@ -31,15 +31,16 @@ module _ (base at many n : ℕ) (out₀ : List ℕ) where
         ap (λ (l : List ℕ). digits base j (rest / base) ++ l) (behind ∙ ap (λ (x : ℕ). x ∷ drop (suc (at + j)) out) e)
         ∙ sym (append-snoc (digits base j (rest / base)) (glyph (rest % base)) (drop (suc (at + j)) out))
 
-    pub goes-on : {v : ℕ} → v ≡ glyph (rest % base) → 0 < i → at + many ≤ length out₀ → Placing base at many n out₀ (set out (at + (i - 1)) v) (rest / base) (i - 1)
-    goes-on {v} e h room =
+    pub goes-on : {v rest′ : ℕ} → v ≡ glyph (rest % base) → rest′ ≡ rest / base → 0 < i → at + many ≤ length out₀ → Placing base at many n out₀ (set out (at + (i - 1)) v) rest′ (i - 1)
+    goes-on {v} e shorter h room =
         let last : suc (i - 1) ≡ i = omega arith in
         let last-place : suc (at + (i - 1)) ≡ at + i = omega arith in
         record {
           left = omega (arith, p .left);
           size = length-set out (at + (i - 1)) v ∙ p .size;
           before-them = take-set-le at out (at + (i - 1)) v (omega arith) ∙ p .before-them;
-          in-all = stored (i - 1) v e (omega (arith, p .left, p .size))
+          in-all = ap (λ (k : ℕ). digits base (i - 1) k ++ drop (at + (i - 1)) (set out (at + (i - 1)) v)) shorter
+              ∙ stored (i - 1) v e (omega (arith, p .left, p .size))
               ∙ (λ k. digits base (last k) rest ++ drop (last-place k) out)
               ∙ p .in-all;
         }

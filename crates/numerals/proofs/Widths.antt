@@ -1,16 +1,22 @@
 -- A number's width, one digit at a time, over the base. Assumes nothing.
 use mathlib.Core.Path.{_≡_, refl, ap}
 use mathlib.Core.Bool.{Bool, true, false, cond}
-use Prim.Native.Nat.{ℕ, zero, suc, _/_, _≤_, _<_}
+use Prim.Native.Nat.{ℕ, zero, suc, _+_, _/_, _≤_, _<_}
 use native.Mathlib.Nat.{div-lt-self}
 use native.Mathlib.Omega.{arith}
 use lib.Dec.{ltb}
 use borrow.Author.Tests.{lt-ltb, le-ltb, ltb-false}
-use Rattle.numerals.specs.Numerals.{widthWithin, width}
+use Rattle.numerals.specs.declared.Base.{Base}
+use Rattle.numerals.specs.declared.Base.the-variants.{Decimal, Hexadecimal}
+use Rattle.numerals.specs.Numerals.{radix, widthWithin, width}
+
+pub more-than-one : (b : Base) → 1 < radix b
+more-than-one Decimal = omega arith
+more-than-one Hexadecimal = omega arith
 
 module _ (base : ℕ) (big : 1 < base) where
   -- a quotient fits into one unit less
-  smaller : (n most : ℕ) → base ≤ n → n ≤ suc most → n / base ≤ most
+  pub smaller : (n most : ℕ) → base ≤ n → n ≤ suc most → n / base ≤ most
   smaller n most h k = let less : n / base < n = div-lt-self (omega arith) big in omega (arith, less)
 
   -- any bound that reaches the number gives the same width
@@ -38,3 +44,10 @@ module _ (base : ℕ) (big : 1 < base) where
       none : base ≤ 0 → ⊥
       none y = omega (arith, big)
   width-long (suc m) h = simp (le-ltb (suc m) base h) (ap suc (enough m (suc m / base) (suc m / base) (smaller (suc m) m h (omega arith)) (omega arith)))
+
+  -- a digit counted is one less to count
+  pub counted : (many rest rest′ n : ℕ) → base ≤ rest → rest′ ≡ rest / base → many + width base rest ≡ suc (width base n) → many + rest ≤ suc n →
+      (rest′ < rest) × (many + 1 + width base rest′ ≡ suc (width base n)) × (many + 1 + rest′ ≤ suc n)
+  counted many rest rest′ n h e w below =
+      let less : rest / base < rest = div-lt-self (omega arith) big in
+      (omega arith, omega (arith, width-long rest h, ap (width base) e), omega arith)

@@ -3,6 +3,13 @@ use Prim.Native.Nat.{ℕ, zero, suc, _+_, _/_, _%_}
 use mathlib.Core.Bool.{cond}
 use mathlib.Core.List.{List, [], _∷_, _++_}
 use lib.Dec.{ltb}
+use Rattle.numerals.specs.declared.Base.{Base}
+use Rattle.numerals.specs.declared.Base.the-variants.{Decimal, Hexadecimal}
+
+-- "decimal", "hexadecimal"
+abbrev pub radix : Base → ℕ
+radix Decimal = 10
+radix Hexadecimal = 16
 
 -- the ASCII code of a digit: 0 to 9, then a to f; "hexadecimal is lower case"
 unfoldable pub glyph : ℕ → ℕ

@@ -1,41 +1,64 @@
-// Numbers as decimal and hexadecimal digits, in lent bytes.
+// Numbers as digits of a base, in lent bytes.
 ghost use mathlib.Core.Path.{_≡_};
-ghost use Prim.Native.Nat.{_+_, _<_, _≤_};
+ghost use Prim.Native.Nat.{_+_, _/_, _%_, _<_, _≤_};
 ghost use lib.ListN.{length};
 ghost use lib.Dec.{leb};
-ghost use Rattle.numerals.specs.Numerals.{glyph as Numerals·glyph, digits, width};
+ghost use Rattle.numerals.specs.Numerals.{radix as Numerals·radix, glyph as Numerals·glyph, digits, width as Numerals·width};
 ghost use Rattle.numerals.specs.Written.{splice, written};
 
+pub enum Base {
+    Decimal,
+    Hexadecimal,
+}
+
+// So many bytes from a place on.
+pub struct Span {
+    pub at: usize,
+    pub many: usize,
+}
+
+fn radix(base: Base) -> usize
+    ensures { λ r. ⌜ r ≡ Numerals·radix base ⌝ }
+{
+    match base {
+        Base::Decimal => 10,
+        Base::Hexadecimal => 16,
+    }
+}
+
+// A number without its last digit: each base divides by a constant.
+fn shortened(n: usize, base: Base) -> usize
+    ensures { λ r. ⌜ r ≡ n / Numerals·radix base ⌝ }
+{
+    match base {
+        Base::Decimal => n / 10,
+        Base::Hexadecimal => n / 16,
+    }
+}
+
 // How many digits a number has, without leading zeros.
-pub fn decimal_width(n: usize) -> usize
-    ensures { λ r. ⌜ r ≡ width 10 n ⌝ }
+pub fn width(n: usize, base: Base) -> usize
+    ensures { λ r. ⌜ r ≡ Numerals·width (Numerals·radix base) n ⌝ }
 {
+    let least = radix(base);
     let mut rest = n;
     let mut many = 1usize;
-    while 10 <= rest {
-        rest /= 10;
+    while least <= rest {
+        rest = shortened(rest, base);
         many += 1;
     }
     many
 }
 
-pub fn hex_width(n: u32) -> usize
-    ensures { λ r. ⌜ r ≡ width 16 n ⌝ }
+// Whether a span lies within so many bytes.
+pub fn has_room(all: usize, span: Span) -> bool
+    ensures { λ r. ⌜ r ≡ leb (span .at + span .many) all ⌝ }
 {
-    let mut rest = n;
-    let mut many = 1usize;
-    while 16 <= rest {
-        rest /= 16;
-        many += 1;
+    if span.at <= all {
+        span.many <= all - span.at
+    } else {
+        false
     }
-    many
-}
-
-// Whether so many bytes fit from a place on.
-pub fn has_room(all: usize, at: usize, many: usize) -> bool
-    ensures { λ r. ⌜ r ≡ leb (at + many) all ⌝ }
-{
-    if at <= all { many <= all - at } else { false }
 }
 
 fn glyph(d: u8) -> u8
@@ -45,45 +68,35 @@ fn glyph(d: u8) -> u8
     if d < 10 { 48 + d } else { 87 + d }
 }
 
-fn decimal_digits(out: &mut [u8], at: usize, many: usize, n: usize)
-    requires { ⌜ at + many ≤ length (now out) ⌝ }
-    ensures { λ _. ⌜ now (out .exit) ≡ splice at (digits 10 many n) (now (out .entry)) ⌝ }
+// The last digit of a number.
+fn last_glyph(n: usize, base: Base) -> u8
+    ensures { λ r. ⌜ r ≡ Numerals·glyph (n % Numerals·radix base) ⌝ }
 {
+    match base {
+        Base::Decimal => glyph((n % 10) as u8),
+        Base::Hexadecimal => glyph((n % 16) as u8),
+    }
+}
+
+fn place_digits(out: &mut [u8], span: Span, n: usize, base: Base)
+    requires { ⌜ span .at + span .many ≤ length (now out) ⌝ }
+    ensures { λ _. ⌜ now (out .exit) ≡ splice (span .at) (digits (Numerals·radix base) (span .many) n) (now (out .entry)) ⌝ }
+{
+    let at = span.at;
     let mut rest = n;
-    let mut i = many;
+    let mut i = span.many;
     while 0 < i {
         i -= 1;
-        out[at + i] = glyph((rest % 10) as u8);
-        rest /= 10;
+        out[at + i] = last_glyph(rest, base);
+        rest = shortened(rest, base);
     }
 }
 
-fn hex_digits(out: &mut [u8], at: usize, many: usize, n: u32)
-    requires { ⌜ at + many ≤ length (now out) ⌝ }
-    ensures { λ _. ⌜ now (out .exit) ≡ splice at (digits 16 many n) (now (out .entry)) ⌝ }
+// The number's lowest digits, as many as the span has bytes; nothing where it lies outside.
+pub fn put_digits(out: &mut [u8], span: Span, n: usize, base: Base)
+    ensures { λ _. ⌜ now (out .exit) ≡ written (span .at) (digits (Numerals·radix base) (span .many) n) (now (out .entry)) ⌝ }
 {
-    let mut rest = n;
-    let mut i = many;
-    while 0 < i {
-        i -= 1;
-        out[at + i] = glyph((rest % 16) as u8);
-        rest /= 16;
-    }
-}
-
-// The number's lowest digits, so many, from a place on; nothing where they don't fit.
-pub fn put_decimal(out: &mut [u8], at: usize, many: usize, n: usize)
-    ensures { λ _. ⌜ now (out .exit) ≡ written at (digits 10 many n) (now (out .entry)) ⌝ }
-{
-    if has_room(out.len(), at, many) {
-        decimal_digits(out, at, many, n);
-    }
-}
-
-pub fn put_hex(out: &mut [u8], at: usize, many: usize, n: u32)
-    ensures { λ _. ⌜ now (out .exit) ≡ written at (digits 16 many n) (now (out .entry)) ⌝ }
-{
-    if has_room(out.len(), at, many) {
-        hex_digits(out, at, many, n);
+    if has_room(out.len(), span) {
+        place_digits(out, span, n, base);
     }
 }

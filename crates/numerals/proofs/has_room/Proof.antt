@@ -16,10 +16,10 @@ behind all at many h = go (leb many (all - at)) refl
     go false e = sym (lt-leb (at + many) all (omega (arith, leb-false many (all - at) e)))
 
 returns : tie.Need-returns
-returns c = let a = c .before .args in behind (a .all) (a .at) (a .many) (c .if1 .taken)
+returns c = let a = c .before .before .before .before .args in behind (a .all) (a .span .at) (a .span .many) (c .before .before .if1 .taken)
 
 returns-2 : tie.Need-returns-2
-returns-2 c = let a = c .before .args in sym (lt-leb (a .at + a .many) (a .all) (omega (arith, c .if1 .left)))
+returns-2 c = let a = c .before .before .args in sym (lt-leb (a .span .at + a .span .many) (a .all) (omega (arith, c .if1 .left)))
 
 pub has-room-spec : {M : Type 1} → statement M
 has-room-spec = tie.close (tie.spec returns returns-2)

@@ -5,7 +5,7 @@ use mathlib.Core.List.{List, [], _∷_}
 use Prim.Native.Nat.{ℕ, zero, suc, _+_, _*_, _≤_}
 use native.Mathlib.Omega.{arith}
 use lib.ListN.{length}
-use lib.IntN.{ℤ}
+use Rattle.machine_data.specs.declared.MachineData.{MachineData}
 use lib.Dec.{ltb}
 use borrow.Author.Tests.{ltb-true}
 use Rattle.words.proofs.Absurd.{never}
@@ -13,7 +13,7 @@ use Rattle.records.specs.declared.CycleRecord.{CycleRecord}
 use Rattle.records.specs.declared.Entry as E
 use Rattle.records.specs.Records.{entryAt, LogRead, records, fault, before, onEntry, logFrom, logOf}
 use Rattle.records.proofs.Scanning.{record-there}
-use Rattle.log.specs.Run.{turnOf, linesOf}
+use Rattle.log.specs.Run.{deviceCycle, linesOf}
 
 -- from a place on, the records fill what is left of the log at most
 abbrev Fill : List ℕ → ℕ → LogRead → Type 0
@@ -44,7 +44,7 @@ fills (suc n) s at rs e₀ h = go (ltb at (length s)) refl (entryAt s at) refl (
 pub seven-words : (s : List ℕ) (rs : List CycleRecord) → logOf s ≡ records rs → 7 * length rs ≤ length s
 seven-words s rs e = omega (arith, fills (length s) s 0 rs e (omega arith))
 
-pub three-words : (da db : List ℤ) (x : _) (rs : List CycleRecord) → length (linesOf da db x rs) ≡ 3 * length rs
+pub three-words : (da db : MachineData) (x : _) (rs : List CycleRecord) → length (linesOf da db x rs) ≡ 3 * length rs
 unfolding linesOf
 three-words da db x [] = refl
-three-words da db x (r ∷ rs) = let rest = three-words da db (turnOf da db x r .both) rs in omega (arith, rest)
+three-words da db x (r ∷ rs) = let rest = three-words da db (deviceCycle da db x r .both) rs in omega (arith, rest)

@@ -27,8 +27,8 @@ module _ (out : List ℕ) where
     by-records (fault place) e = (refl, omega arith, refl)
     by-records (records rs) e =
         let seven = seven-words words rs e in
-        let lines = linesOf (a .values) (b .values) (bothOf (freshChannel a) (freshChannel b)) rs in
-        let three : length lines ≡ 3 * length rs = three-words (a .values) (b .values) (bothOf (freshChannel a) (freshChannel b)) rs in
+        let lines = linesOf a b (bothOf (freshChannel a) (freshChannel b)) rs in
+        let three : length lines ≡ 3 * length rs = three-words a b (bothOf (freshChannel a) (freshChannel b)) rs in
         let first : take (3 * length rs) (lines ++ drop (3 * length rs) out) ≡ lines = take-at lines (drop (3 * length rs) out) (3 * length rs) three in
         simp (le-ltb (length out) (3 * length rs) (omega (arith, seven, room))) (
           ap (linesFrom 1) (ap (take 7020) first ∙ take-all 7020 lines (omega (arith, three, seven, short))),

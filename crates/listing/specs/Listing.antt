@@ -25,7 +25,7 @@ letterOf P.the-variants.Log = 76
 
 -- the log's text: "the cycle from 1", or its refusal. A kit's log is never over 16,384 words, and the bench has room for it, so there is no 7
 abbrev pub byLog : MachineData → MachineData → LogRead → List ℕ
-byLog a b (records rs) = linesFrom 1 (linesOf (a .values) (b .values) (bothOf (freshChannel a) (freshChannel b)) rs)
+byLog a b (records rs) = linesFrom 1 (linesOf a b (bothOf (freshChannel a) (freshChannel b)) rs)
 byLog a b (fault place) = refusalLine 6 place (letterOf P.the-variants.Log)
 
 abbrev pub byLists : List ℕ → KitRead → K.KitAnswer → List ℕ

@@ -37,5 +37,5 @@ marked =
     (refl, (refl, (refl, (refl, (refl, (refl, (refl, (refl, (refl, (refl, (refl, (refl, (refl, (refl, (refl, (refl, (refl, tt)))))))))))))))))
 
 pub example : linesOf (kit .values) (kit .values) (bothOf (freshChannel kit) (freshChannel kit)) log ≡ lines
-unfolding the-cycle Run.turnOf linesOf kit log
+unfolding the-cycle Run.deviceCycle linesOf kit log
 example = refl

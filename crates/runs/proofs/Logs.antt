@@ -15,7 +15,7 @@ use Rattle.channel.specs.declared.Given.{Given}
 use Rattle.channel.specs.declared.Channel.{Channel}
 use Rattle.channel.specs.Cycle.{next}
 use Rattle.channel.specs.Word.{word}
-use Rattle.log.specs.Run.{turnOf, lastOf, linesOf, bothOf, withState, Ran, refusing, running, byRecords, ranOf}
+use Rattle.log.specs.Run.{deviceCycle, lastOf, linesOf, bothOf, withState, Ran, refusing, running, byRecords, ranOf}
 use Rattle.runs.specs.Calls.{Side, as-a, as-b, own, Words, wordsAt, wordsFrom, answeredWords}
 use Rattle.runs.specs.History.{givenOf, givensOf, recordsRun}
 use Rattle.runs.proofs.OfDevice.{Over, over-first, over-second}
@@ -55,12 +55,12 @@ line-over as-b v w = over-second w v
 
 lines-turn : (s : Side) (c o : Channel) (r : CycleRecord) (rs : List CycleRecord) →
     lines s c o (r ∷ rs) ≡ line s (wordIn s c o r) (wordIn (other s) o c r) (lines s (after s c o r) (after (other s) o c r) rs)
-unfolding linesOf turnOf
+unfolding linesOf deviceCycle
 lines-turn as-a c o r rs = refl
 lines-turn as-b c o r rs = refl
 
 last-turn : (s : Side) (c o : Channel) (r : CycleRecord) (rs : List CycleRecord) → last s c o (r ∷ rs) ≡ last s (after s c o r) (after (other s) o c r) rs
-unfolding lastOf turnOf
+unfolding lastOf deviceCycle
 last-turn as-a c o r rs = refl
 last-turn as-b c o r rs = refl
 

@@ -1,2 +1,2 @@
 pub mod Kit
-pub mod IsKit
+pub mod AreLists

@@ -3,13 +3,14 @@ ghost use mathlib.Core.Path.{_≡_};
 ghost use Rattle.kit.specs.Kit.{readKit};
 use list::ListAnswer;
 use machine_data::MachineData;
+use refusal::Part;
+use refusal::Refusal;
 
 pub enum KitAnswer {
     // where the log begins
     Accepted(usize),
-    // number and place, counted from the list's own first word
-    RefusedA(u32, usize),
-    RefusedB(u32, usize),
+    // places are counted from the first word of the list refused
+    Refused(Refusal, Part),
 }
 
 pub struct KitRead {
@@ -36,15 +37,15 @@ pub fn read_kit(words: &[u32]) -> KitRead
                     a,
                     b,
                 },
-                ListAnswer::Refused(number, place) => KitRead {
-                    answer: KitAnswer::RefusedB(number, place),
+                ListAnswer::Refused(why) => KitRead {
+                    answer: KitAnswer::Refused(why, Part::ListB),
                     a,
                     b,
                 },
             }
         }
-        ListAnswer::Refused(number, place) => KitRead {
-            answer: KitAnswer::RefusedA(number, place),
+        ListAnswer::Refused(why) => KitRead {
+            answer: KitAnswer::Refused(why, Part::ListA),
             a,
             b: a,
         },

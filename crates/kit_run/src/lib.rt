@@ -6,13 +6,7 @@ ghost use Rattle.kit_run.specs.KitRun.{ofLog, kitRan};
 use kit::KitAnswer;
 use log::LogAnswer;
 use machine_data::MachineData;
-
-// The part of a kit that a refusal is about.
-pub enum Part {
-    ListA,
-    ListB,
-    Log,
-}
+use refusal::Part;
 
 pub enum KitRun {
     // how many cycles were run
@@ -45,7 +39,6 @@ pub fn run_kit(words: &[u32], out: &mut [u32]) -> KitRun
     let b = read.b;
     match answer {
         KitAnswer::Accepted(at) => run_behind(a, b, &words[at..], out),
-        KitAnswer::RefusedA(number, place) => KitRun::Refused(number, place, Part::ListA),
-        KitAnswer::RefusedB(number, place) => KitRun::Refused(number, place, Part::ListB),
+        KitAnswer::Refused(why, part) => KitRun::Refused(why.number(), why.place(), part),
     }
 }

@@ -1,96 +1,109 @@
--- One datum, the data one by one, and the end of a list, by what was read. Assumes nothing.
-use mathlib.Core.Path.{_≡_, sym, ap, _∙_}
+-- The head, the data one by one, and the end of a list, by what was read. Assumes nothing.
+use mathlib.Core.Path.{_≡_, refl, sym, ap, _∙_, subst}
 use mathlib.Core.List.{List, [], _∷_}
-use mathlib.Core.Bool.{Bool, cond}
+use mathlib.Core.Bool.{Bool, true, false, not, cond}
 use Prim.Native.Nat.{ℕ, suc, _+_, _-_, _≤_, _<_}
+use native.Mathlib.Numerals.{add-one}
 use native.Mathlib.Omega.{arith}
 use lib.ListN.{set, getD}
 use lib.IntN.{ℤ, pos}
-use lib.Signed.{leZ, mag}
-use lib.Dec.{eqb}
+use lib.Signed.{ltZ, leZ, ltZ-yes, leZ-yes, ltZ-no, clashℤ, mag}
+use lib.Dec.{T}
+use lib.Ieee.Bits.{is-true}
 use mir.Syntax.{w32}
 use mir.Val.{toZ, ofZ}
 use mir.ValLaws.{toZ-ofZ}
 use denote.Enum.Declared.{tagOf}
 use types.Run.{OneOf}
+use borrow.Author.Tests.{eqb-true}
+use Rattle.laws.proofs.Bools.{is-false}
+use Rattle.refusal.specs.declared.Refusal.{Refusal}
+use Rattle.refusal.specs.declared.Refusal.the-variants.{WrongWord, SeEnds}
 use Rattle.words.specs.declared.Word.{Word}
 use Rattle.words.specs.declared.Word.the-variants.{Head}
 use Rattle.words.specs.Words.{wordAt}
 use Rattle.words.specs.Cases.{ifHead}
 use Rattle.words.proofs.Word.{the-type}
 use Rattle.words.proofs.Cases.{no-head}
-use Rattle.machine_data.specs.Table.{inRange}
-use Rattle.list.specs.Datum.{datumAt, unitsOf}
-use Rattle.list.specs.Reading.{stepAt, ofRead, ofUnits, acceptance, refusal, ends, onStep, gather, zeros, readList}
+use Rattle.machine_data.specs.Table.{dataCount}
+use Rattle.machine_data.specs.declared.MachineData.{MachineData}
+use Rattle.datum.specs.declared.DatumAnswer as D
+use Rattle.datum.specs.Datum.{valueAt}
+use Rattle.list.specs.Rules.{isHead, seBelow}
+use Rattle.list.specs.Reading.{acceptedList, refusedList, nextOf, placeOf, ends, onValue, gather, zeros, readList}
 use Rattle.list.specs.declared.ListRead.{ListRead}
-use Rattle.list.specs.declared.Datum as D
-use Rattle.list.specs.declared.Units as U
-use Rattle.list.specs.declared.DatumRead as R
-use Rattle.list.specs.declared.Step as S
-
--- ---- one datum
-
-module _ (s : List ℕ) (k at : ℕ) where
-  pub step-bad : {place : ℕ} → datumAt s k at ≡ R.the-variants.Bad place → S.the-variants.Refused 1 place ≡ stepAt s k at
-  unfolding stepAt
-  step-bad h = sym (ap (ofRead k at) h)
-
-  module _ {d : D.Datum} {next : ℕ} (read : datumAt s k at ≡ R.the-variants.Datum d next) where
-    pub by-units : {u : U.Units} → unitsOf d ≡ u → ofUnits k at next u ≡ stepAt s k at
-    unfolding stepAt
-    by-units e = sym (ap (ofRead k at) read ∙ ap (ofUnits k at next) e)
-
-    -- y is z as the machine has it
-    pub by-range : {z y : ℤ} → unitsOf d ≡ U.the-variants.Are z → y ≡ z → {t : Bool} → inRange k y ≡ t →
-        cond t (S.the-variants.Value y next) (S.the-variants.Refused 4 at) ≡ stepAt s k at
-    by-range {z} e same r =
-        (λ i. cond (sym r i) (S.the-variants.Value (same i) next) (S.the-variants.Refused 4 at))
-        ∙ ap (λ (v : ℤ). cond (inRange k v) (S.the-variants.Value z next) (S.the-variants.Refused 4 at)) same
-        ∙ by-units e
-
--- ---- the data one by one
-
-module _ (s : List ℕ) (k at : ℕ) (vs : List ℤ) (m m′ : ℕ) {r : ListRead} (inv : gather (51 - k) s k at vs m m′ ≡ r) where
-  later : ℤ → ℕ → ListRead
-  later z next = gather (51 - (k + 1)) s (k + 1) next (set vs k z) (cond (eqb k 11) at m) (cond (eqb k 13) at m′)
-
-  turned : k < 51 → {t : S.Step} → stepAt s k at ≡ t → onStep t later ≡ r
-  unfolding gather later
-  turned h {t} e =
-      let less : 51 - k ≡ suc (51 - (k + 1)) = omega arith in
-      sym (ap (λ (x : S.Step). onStep x later) e) ∙ ap (λ (n : ℕ). gather n s k at vs m m′) (sym less) ∙ inv
-
-  pub again : k < 51 → {z : ℤ} {next : ℕ} → stepAt s k at ≡ S.the-variants.Value z next → {y : ℤ} → y ≡ z → {a b : ℕ} → a ≡ cond (eqb k 11) at m → b ≡ cond (eqb k 13) at m′ →
-      gather (51 - (k + 1)) s (k + 1) next (set vs k y) a b ≡ r
-  unfolding later
-  again h {z} {next} st e p q = (λ i. gather (51 - (k + 1)) s (k + 1) next (set vs k (e i)) (p i) (q i)) ∙ turned h st
-
-  pub stopped : k < 51 → {n place : ℕ} → stepAt s k at ≡ S.the-variants.Refused n place → refusal n place ≡ r
-  stopped h st = turned h st
-
-  pub all-read : 51 ≤ k → ends vs m m′ at ≡ r
-  unfolding gather
-  all-read h = let none : 51 - k ≡ 0 = omega arith in ap (λ (n : ℕ). gather n s k at vs m m′) (sym none) ∙ inv
-
--- ---- the end of a list
-
--- two elements of an array of i32, as the machine compares them
-pub compared : (vs : List ℤ) (i j : ℕ) {t : Bool} → mag (getD vs i (pos 0)) < 2147483648 → mag (getD vs j (pos 0)) < 2147483648 →
-    leZ (toZ w32 (ofZ w32 (getD vs i (pos 0)))) (toZ w32 (ofZ w32 (getD vs j (pos 0)))) ≡ t → leZ (getD vs i (pos 0)) (getD vs j (pos 0)) ≡ t
-compared vs i j p q e = sym (λ x. leZ (toZ-ofZ w32 (getD vs i (pos 0)) (record { sfits = p }) x) (toZ-ofZ w32 (getD vs j (pos 0)) (record { sfits = q }) x)) ∙ e
-
-pub ended-by : (vs : List ℤ) (m m′ at : ℕ) {t u : Bool} → leZ (getD vs 12 (pos 0)) (getD vs 11 (pos 0)) ≡ t → leZ (getD vs 14 (pos 0)) (getD vs 13 (pos 0)) ≡ u →
-    cond t (refusal 5 m) (cond u (refusal 5 m′) (acceptance vs at)) ≡ ends vs m m′ at
-unfolding ends
-ended-by vs m m′ at p q = sym (λ i. cond (p i) (refusal 5 m) (cond (q i) (refusal 5 m′) (acceptance vs at)))
 
 -- ---- the head
 
-pub no-head-word : (s : List ℕ) {x : Word} → x ≡ wordAt s 0 → OneOf (1 ∷ 2 ∷ 3 ∷ 4 ∷ 5 ∷ 6 ∷ 7 ∷ 8 ∷ []) (tagOf the-type x) → refusal 1 0 ≡ readList s
-unfolding readList
-no-head-word s {x} e h =
-    no-head x h (gather 51 s 0 1 zeros 0 0) (refusal 1 0) ∙ ap (λ (y : Word). ifHead y (gather 51 s 0 1 zeros 0 0) (refusal 1 0)) e
+behind-head : List ℕ → ℕ → ListRead
+behind-head s n = cond (isHead n) (gather n s 0 1 zeros) (refusedList (WrongWord 0))
 
-pub after-head : (s : List ℕ) → wordAt s 0 ≡ Head → gather 51 s 0 1 zeros 0 0 ≡ readList s
-unfolding readList
-after-head s e = sym (ap (λ (y : Word). ifHead y (gather 51 s 0 1 zeros 0 0) (refusal 1 0)) e)
+pub no-head-word : (s : List ℕ) {x : Word} → x ≡ wordAt s 0 → OneOf (1 ∷ 2 ∷ 3 ∷ 4 ∷ 5 ∷ 6 ∷ 7 ∷ 8 ∷ []) (tagOf the-type x) → refusedList (WrongWord 0) ≡ readList s
+unfolding readList behind-head
+no-head-word s {x} e h = no-head x h (behind-head s) (refusedList (WrongWord 0)) ∙ ap (λ (y : Word). ifHead y (behind-head s) (refusedList (WrongWord 0))) e
+
+pub by-head : (s : List ℕ) {n : ℕ} → wordAt s 0 ≡ Head n → {t : Bool} → isHead n ≡ t → cond t (gather n s 0 1 zeros) (refusedList (WrongWord 0)) ≡ readList s
+unfolding readList behind-head
+by-head s {n} e h = sym (ap (λ (y : Word). ifHead y (behind-head s) (refusedList (WrongWord 0))) e ∙ ap (λ (t : Bool). cond t (gather n s 0 1 zeros) (refusedList (WrongWord 0))) h)
+
+pub head-count : (n : ℕ) {t : Bool} → t ≡ isHead n → t ≡ true → n ≡ dataCount
+head-count n e t = eqb-true n dataCount (sym e ∙ t)
+
+-- ---- the data one by one
+
+pub begun : (s : List ℕ) (count : ℕ) → gather (count - 0) s 0 1 zeros ≡ gather count s 0 1 zeros
+begun s count = let all : count - 0 ≡ count = omega arith in ap (λ (n : ℕ). gather n s 0 1 zeros) all
+
+module _ (s : List ℕ) (count k at : ℕ) (vs : List ℤ) {r : ListRead} (inv : gather (count - k) s k at vs ≡ r) where
+  later : ℤ → ℕ → ListRead
+  later z next = gather (count - (k + 1)) s (k + 1) next (set vs k z)
+
+  turned : k < count → {t : D.DatumAnswer} → valueAt s k at ≡ t → onValue t later ≡ r
+  unfolding gather later
+  turned h {t} e =
+      let less : count - k ≡ suc (count - (k + 1)) = omega arith in
+      sym (ap (λ (x : D.DatumAnswer). onValue x later) e) ∙ ap (λ (n : ℕ). gather n s k at vs) (sym less) ∙ inv
+
+  pub again : k < count → {z : ℤ} {next : ℕ} → valueAt s k at ≡ D.the-variants.Value z next → {y : ℤ} → y ≡ z →
+      gather (count - (k + 1)) s (k + 1) next (set vs k y) ≡ r
+  unfolding later
+  again h {z} {next} st e = (λ i. gather (count - (k + 1)) s (k + 1) next (set vs k (e i))) ∙ turned h st
+
+  pub stopped : k < count → {why : Refusal} → valueAt s k at ≡ D.the-variants.Refused why → refusedList why ≡ r
+  stopped h st = turned h st
+
+  pub all-read : k ≤ count → count ≤ k → ends s (record { values = vs; count = count }) at ≡ r
+  unfolding gather
+  all-read h g =
+      let none : count - k ≡ 0 = omega arith in
+      let last : count ≡ k = omega arith in
+      ap (λ (n : ℕ). ends s (record { values = vs; count = n }) at) last ∙ ap (λ (n : ℕ). gather n s k at vs) (sym none) ∙ inv
+
+-- ---- the place of a datum
+
+module _ (s : List ℕ) (k : ℕ) where
+  pub next-place : {at : ℕ} → at ≡ placeOf s k → {x : D.DatumAnswer} → x ≡ valueAt s k at → nextOf x at ≡ placeOf s (k + 1)
+  unfolding placeOf
+  next-place {at} e h = ap (λ (y : D.DatumAnswer). nextOf y at) h ∙ ap (λ (i : ℕ). nextOf (valueAt s k i) i) e ∙ ap (placeOf s) (sym (add-one k))
+
+-- ---- the end of a list
+
+not-below : (a b : ℤ) (t : Bool) → leZ b a ≡ t → ltZ a b ≡ not t
+not-below a b true e = is-false (ltZ a b) (λ h. absurd (clashℤ {a = a} {b = b} (ltZ-yes h) (leZ-yes (subst T (sym e) tt))))
+not-below a b false e = go (ltZ a b) refl
+  where
+    go : (t : Bool) → ltZ a b ≡ t → ltZ a b ≡ true
+    go true q = q
+    go false q = absurd (subst T (sym (is-true (leZ b a) (ltZ-no {a = a} {b = b} (subst (λ (t : Bool). T (not t)) (sym q) tt) .le)) ∙ e) tt)
+
+-- two elements of an array of i32, as the machine compares them
+pub compared : (vs : List ℤ) (k : ℕ) (t : Bool) → mag (getD vs (suc k) (pos 0)) < 2147483648 → mag (getD vs k (pos 0)) < 2147483648 →
+    leZ (toZ w32 (ofZ w32 (getD vs (suc k) (pos 0)))) (toZ w32 (ofZ w32 (getD vs k (pos 0)))) ≡ t → seBelow vs k ≡ not t
+compared vs k t p q e =
+    not-below (getD vs k (pos 0)) (getD vs (suc k) (pos 0)) t
+    (sym (λ x. leZ (toZ-ofZ w32 (getD vs (suc k) (pos 0)) (record { sfits = p }) x) (toZ-ofZ w32 (getD vs k (pos 0)) (record { sfits = q }) x)) ∙ e)
+
+pub ended-by : (s : List ℕ) (d : MachineData) (n : ℕ) {t u : Bool} → seBelow (d .values) 11 ≡ t → seBelow (d .values) 13 ≡ u →
+    cond t (cond u (acceptedList d n) (refusedList (SeEnds (placeOf s 13)))) (refusedList (SeEnds (placeOf s 11))) ≡ ends s d n
+unfolding ends
+ended-by s d n p q = sym (λ i. cond (p i) (cond (q i) (acceptedList d n) (refusedList (SeEnds (placeOf s 13)))) (refusedList (SeEnds (placeOf s 11))))

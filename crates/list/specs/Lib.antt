@@ -1,3 +1,3 @@
-pub mod Datum
+pub mod Rules
 pub mod Reading
 pub mod IsList

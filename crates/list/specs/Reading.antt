@@ -2,61 +2,55 @@
 use Prim.Native.Nat.{ℕ, zero, suc, _+_}
 use mathlib.Core.List.{List}
 use mathlib.Core.Bool.{cond}
-use lib.ListN.{getD, set, replicate}
+use lib.ListN.{set, replicate}
 use lib.IntN.{ℤ, pos}
-use lib.Signed.{leZ}
-use lib.Dec.{eqb}
+use Rattle.refusal.specs.declared.Refusal.{Refusal}
+use Rattle.refusal.specs.declared.Refusal.the-variants.{WrongWord, SeEnds}
 use Rattle.words.specs.Words.{wordAt}
 use Rattle.words.specs.Cases.{ifHead}
-use Rattle.machine_data.specs.Table.{inRange}
-use Rattle.list.specs.Datum.{datumAt, unitsOf}
+use Rattle.machine_data.specs.Table.{dataCount}
+use Rattle.machine_data.specs.declared.MachineData.{MachineData}
+use Rattle.datum.specs.declared.DatumAnswer as D
+use Rattle.datum.specs.Datum.{valueAt}
+use Rattle.list.specs.Rules.{isHead, seBelow}
 use Rattle.list.specs.declared.ListRead.{ListRead}
 use Rattle.list.specs.declared.ListAnswer as A
-use Rattle.list.specs.declared.DatumRead as R
-use Rattle.list.specs.declared.Units as U
-use Rattle.list.specs.declared.Step as S
-
--- "datum out of range": 4, at its kind 2 word; "per datum 1, 2, 3, 4"
-abbrev pub ofUnits : ℕ → ℕ → ℕ → U.Units → S.Step
-ofUnits k at next (U.the-variants.Are z) = cond (inRange k z) (S.the-variants.Value z next) (S.the-variants.Refused 4 at)
-ofUnits k at next (U.the-variants.Refused n) = S.the-variants.Refused n at
-
--- "list word missing, of wrong kind, number or bits": 1, at that word
-abbrev pub ofRead : ℕ → ℕ → R.DatumRead → S.Step
-ofRead k at (R.the-variants.Datum d next) = ofUnits k at next (unitsOf d)
-ofRead k at (R.the-variants.Bad place) = S.the-variants.Refused 1 place
-
--- datum k at a place
-unfoldable pub stepAt : List ℕ → ℕ → ℕ → S.Step
-stepAt s k at = ofRead k at (datumAt s k at)
 
 abbrev pub zeros : List ℤ
-zeros = replicate 51 (pos 0)
+zeros = replicate dataCount (pos 0)
 
-abbrev pub acceptance : List ℤ → ℕ → ListRead
-acceptance vs n = record { answer = A.the-variants.Accepted n; list = record { values = vs; count = 51 } }
+abbrev pub acceptedList : MachineData → ℕ → ListRead
+acceptedList d n = record { answer = A.the-variants.Accepted n; list = d }
 
 -- a refused list has no data
-abbrev pub refusal : ℕ → ℕ → ListRead
-refusal n place = record { answer = A.the-variants.Refused n place; list = record { values = zeros; count = 0 } }
+abbrev pub refusedList : Refusal → ListRead
+refusedList why = record { answer = A.the-variants.Refused why; list = record { values = zeros; count = 0 } }
 
--- "SE minus not below its plus": 5, at the minus datum; "then 5, SE1 first". m and m′ are the places of the data 11 and 13
-unfoldable pub ends : List ℤ → ℕ → ℕ → ℕ → ListRead
-ends vs m m′ at =
-    cond (leZ (getD vs 12 (pos 0)) (getD vs 11 (pos 0))) (refusal 5 m)
-    (cond (leZ (getD vs 14 (pos 0)) (getD vs 13 (pos 0))) (refusal 5 m′)
-    (acceptance vs at))
+-- the place of datum k's own word; nothing stands behind a datum that is refused
+abbrev pub nextOf : D.DatumAnswer → ℕ → ℕ
+nextOf (D.the-variants.Value z next) at = next
+nextOf (D.the-variants.Refused why) at = at
 
-abbrev pub onStep : S.Step → (ℤ → ℕ → ListRead) → ListRead
-onStep (S.the-variants.Value z next) f = f z next
-onStep (S.the-variants.Refused n place) f = refusal n place
+unfoldable pub placeOf : List ℕ → ℕ → ℕ
+placeOf s zero = 1
+placeOf s (suc k) = nextOf (valueAt s k (placeOf s k)) (placeOf s k)
+
+-- "SE minus not below its plus", at the minus datum; "then 5, SE1 first"
+unfoldable pub ends : List ℕ → MachineData → ℕ → ListRead
+ends s d n =
+    cond (seBelow (d .values) 11)
+    (cond (seBelow (d .values) 13) (acceptedList d n) (refusedList (SeEnds (placeOf s 13))))
+    (refusedList (SeEnds (placeOf s 11)))
+
+abbrev pub onValue : D.DatumAnswer → (ℤ → ℕ → ListRead) → ListRead
+onValue (D.the-variants.Value z next) f = f z next
+onValue (D.the-variants.Refused why) f = refusedList why
 
 -- n data from number k on, the first at the place `at`, with the values vs before; "The first faulty datum gives the answer"
-unfoldable pub gather : ℕ → List ℕ → ℕ → ℕ → List ℤ → ℕ → ℕ → ListRead
-gather zero s k at vs m m′ = ends vs m m′ at
-gather (suc n) s k at vs m m′ =
-    onStep (stepAt s k at) (λ z next. gather n s (k + 1) next (set vs k z) (cond (eqb k 11) at m) (cond (eqb k 13) at m′))
+unfoldable pub gather : ℕ → List ℕ → ℕ → ℕ → List ℤ → ListRead
+gather zero s k at vs = ends s (record { values = vs; count = k }) at
+gather (suc n) s k at vs = onValue (valueAt s k at) (λ z next. gather n s (k + 1) next (set vs k z))
 
 -- "A list is a head and the data in number order"
 unfoldable pub readList : List ℕ → ListRead
-readList s = ifHead (wordAt s 0) (gather 51 s 0 1 zeros 0 0) (refusal 1 0)
+readList s = ifHead (wordAt s 0) (λ n. cond (isHead n) (gather n s 0 1 zeros) (refusedList (WrongWord 0))) (refusedList (WrongWord 0))

@@ -6,7 +6,10 @@
 use kit::KitAnswer;
 use libc::STDOUT_FILENO;
 use list::ListAnswer;
+use machine_data::DATA;
 use machine_data::MachineData;
+use refusal::Part;
+use refusal::Refusal;
 
 // The words of a list, or the numbers of a line.
 struct Words {
@@ -196,7 +199,7 @@ fn put_value(k: usize, z: i32) {
 // The data that differ from the base list's.
 fn put_changed(base: MachineData, list: MachineData) {
     let mut k = 0usize;
-    while k < 51 {
+    while k < DATA {
         let old = base.values[k];
         let new = list.values[k];
         if old != new {
@@ -228,9 +231,9 @@ fn put_list(base: Words, words: Words) {
             put_number(n as u64);
             put_changed(read_words(base).list, list);
         }
-        ListAnswer::Refused(number, place) => {
+        ListAnswer::Refused(why) => {
             io::write_all(STDOUT_FILENO, b"refused");
-            put_refusal(number, place);
+            put_refusal(why);
         }
     }
 }
@@ -243,9 +246,17 @@ fn read_first_kit(words: &[u32], n: usize) -> kit::KitRead {
     }
 }
 
-fn put_refusal(number: u32, place: usize) {
-    put_number(number as u64);
-    put_number(place as u64);
+fn put_refusal(why: Refusal) {
+    put_number(why.number() as u64);
+    put_number(why.place() as u64);
+}
+
+fn put_part(part: Part) {
+    match part {
+        Part::ListA => io::write_all(STDOUT_FILENO, b" A"),
+        Part::ListB => io::write_all(STDOUT_FILENO, b" B"),
+        Part::Log => io::write_all(STDOUT_FILENO, b" L"),
+    }
 }
 
 fn put_kit(words: Words) {
@@ -256,13 +267,10 @@ fn put_kit(words: Words) {
             io::write_all(STDOUT_FILENO, b"accepted");
             put_number(n as u64);
         }
-        KitAnswer::RefusedA(number, place) => {
-            io::write_all(STDOUT_FILENO, b"refused A");
-            put_refusal(number, place);
-        }
-        KitAnswer::RefusedB(number, place) => {
-            io::write_all(STDOUT_FILENO, b"refused B");
-            put_refusal(number, place);
+        KitAnswer::Refused(why, part) => {
+            io::write_all(STDOUT_FILENO, b"refused");
+            put_part(part);
+            put_refusal(why);
         }
     }
 }

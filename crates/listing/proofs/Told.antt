@@ -46,5 +46,4 @@ module _ (out : List ℕ) where
     where
       go : (x : K.KitAnswer) → Told (byLists words (readKit words) x) out (byKit words out (readKit words) x)
       go (K.the-variants.Accepted at) = by-log (readKit words .a) (readKit words .b) (drop at words) (omega (arith, length-drop at words, short)) (omega (arith, length-drop at words, room))
-      go (K.the-variants.RefusedA number place) = (refl, omega arith, refl)
-      go (K.the-variants.RefusedB number place) = (refl, omega arith, refl)
+      go (K.the-variants.Refused why part) = (refl, omega arith, refl)

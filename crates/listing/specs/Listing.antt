@@ -11,7 +11,8 @@ use Rattle.kit.specs.Kit.{readKit}
 use Rattle.records.specs.Records.{LogRead, records, fault, logOf}
 use Rattle.channel.specs.Cycle.{freshChannel}
 use Rattle.log.specs.Run.{linesOf, bothOf}
-use Rattle.kit_run.specs.declared.Part as P
+use Rattle.refusal.specs.Refusal.{refusalNumber, refusalPlace}
+use Rattle.refusal.specs.declared.Part as P
 use Rattle.kit_run.specs.declared.KitRun as R
 use Rattle.kit_bytes.specs.KitBytes.{wholeWords, wordsOf}
 use Rattle.lines.specs.Lines.{refusalLine}
@@ -30,8 +31,7 @@ byLog a b (fault place) = refusalLine 6 place (letterOf P.the-variants.Log)
 
 abbrev pub byLists : List ℕ → KitRead → K.KitAnswer → List ℕ
 byLists words r (K.the-variants.Accepted at) = byLog (r .a) (r .b) (logOf (drop at words))
-byLists words r (K.the-variants.RefusedA number place) = refusalLine number place (letterOf P.the-variants.ListA)
-byLists words r (K.the-variants.RefusedB number place) = refusalLine number place (letterOf P.the-variants.ListB)
+byLists words r (K.the-variants.Refused why part) = refusalLine (refusalNumber why) (refusalPlace why) (letterOf part)
 
 -- "It reads a kit (list A, list B, log; .."
 unfoldable pub ofWords : List ℕ → List ℕ

@@ -9,8 +9,8 @@ ghost use Rattle.kit_run.specs.KitRun.{kitRan};
 use kit_bytes::read_words;
 use kit_bytes::whole_words;
 use kit_run::KitRun;
-use kit_run::Part;
 use lines::put_refusal;
+use refusal::Part;
 use run_text::put_run;
 
 fn letter(part: Part) -> u8

@@ -4,7 +4,7 @@ use lib.Ieee.{ofBits}
 use Rattle.bits.specs.Bits
 use Rattle.machine_data.specs.Data
 use Rattle.whole.specs.Whole
-use Rattle.list.specs.Datum
+use Rattle.datum.specs.Datum
 use Rattle.inputs.specs.Inputs
 use Rattle.speed.specs.Speed
 use Rattle.selection.specs.Selection

@@ -6,10 +6,11 @@ use mathlib.Core.Path.{_≡_}
 use lib.IntN.{ℤ, pos, negsuc}
 use lib.Ieee.{binary32, ofBits}
 use Rattle.bits.specs.Bits.{flag}
-use Rattle.list.specs.declared.Datum.the-variants.{Single}
-use Rattle.list.specs.declared.Units.{Units}
-use Rattle.list.specs.declared.Units.the-variants.{Are, Refused}
-use Rattle.list.specs.Datum.{unitsOf}
+use Rattle.datum.specs.declared.Datum.the-variants.{Single}
+use Rattle.datum.specs.declared.Units.{Units}
+use Rattle.datum.specs.declared.Units.the-variants.{Are, Refused}
+use Rattle.datum.specs.Datum.{unitsOf}
+use Rattle.refusal.specs.declared.Refusal.the-variants.{NoWholeNumber}
 use Rattle.selection.specs.declared.Selection.{Selection}
 use Rattle.selection.specs.declared.Selection.the-variants.{Nothing, Sbh}
 use Rattle.stop.specs.Stop.{levelOf}
@@ -27,7 +28,7 @@ pub data Shown : Type 0 where
   fault : Bool → Shown
 
 pub data Case : Type 0 where
-  -- the pattern of a binary32, and what the list reader makes of it
+  -- the pattern of a binary32, and what the list reader makes of it, the datum standing at place 0
   binary32-is : ℕ → Units → Case
   -- a list, the cycles before, a cycle, and what it shows
   cycle : List Entry → List Brief → Brief → Shown → Case
@@ -47,7 +48,7 @@ shows d s b (effective e) = next d s (given d (s .k) b) .choice .effective ≡ e
 shows d s b (fault f) = next d s (given d (s .k) b) .fault .on ≡ f
 
 abbrev pub Holds : Case → Type 0
-Holds (binary32-is bits units) = unitsOf (Single (ofBits binary32 bits)) ≡ units
+Holds (binary32-is bits units) = unitsOf (Single (ofBits binary32 bits)) 0 ≡ units
 Holds (cycle es before b shown) = shows (listOf es) (stateAfter (listOf es) freshState before) b shown
 
 abbrev pub AllHold : List Row → Type 0
@@ -93,7 +94,7 @@ table =
     -- "P9 binary32 44FA0000 is 2000"
     ∷ P 9 (binary32-is 0x44fa0000 (Are (pos 2000)))
     -- "P10 3F000000 is refused 3"
-    ∷ P 10 (binary32-is 0x3f000000 (Refused 3))
+    ∷ P 10 (binary32-is 0x3f000000 (Refused (NoWholeNumber 0)))
     -- "P11 E and C together: C"
     ∷ P 11 (cycle (is 0 12 ∷ is 1 16 ∷ is 29 5 ∷ is 31 5 ∷ []) [] (alike (pos 0) stop-c-and-e) (rank 3))
     -- "P12 B time 0: A that cycle"

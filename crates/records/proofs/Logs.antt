@@ -129,7 +129,7 @@ unfolding entryAt
 remark-at s at = go (wordAt s at) refl
   where
     go : (x : Word) → wordAt s at ≡ x → ifPosition x (λ p. onInputs (inputsAt s (at + 1)) (λ w. otherAt s (at + 3) (record { position = p; inputs = w }))) (betweenOf x at) ≡ E.the-variants.Remark → x ≡ W.Remark
-    go W.Head q e = never (cc)
+    go (W.Head n) q e = never (cc)
     go (W.Datum k f) q e = never (cc)
     go (W.Piece b) q e = never (cc)
     go (W.Position p) q e = absurd (onInputs-no-remark (inputsAt s (at + 1)) (λ w. otherAt s (at + 3) (record { position = p; inputs = w })) (λ w. no-remark-inside s (at + 3) (record { position = p; inputs = w })) e)

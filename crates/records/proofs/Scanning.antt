@@ -50,7 +50,7 @@ read s at r e =
     })
   where
     no-between : (x : Word) → betweenOf x at ≡ E.the-variants.Record r → ⊥
-    no-between W.Head h = never (cc)
+    no-between (W.Head n) h = never (cc)
     no-between (W.Datum k f) h = never (cc)
     no-between (W.Piece b) h = never (cc)
     no-between (W.Position z) h = never (cc)

@@ -1,3 +1,3 @@
-pub mod Faults
+pub mod Data
 pub mod Lists
 pub mod Kits

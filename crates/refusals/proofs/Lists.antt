@@ -1,4 +1,4 @@
--- A list is refused with a number and a place if and only if IsFault says so. Assumes nothing.
+-- A list is refused with its row of the table and its place if and only if IsFault says so. Assumes nothing.
 use mathlib.Core.Path.{_≡_, refl, sym, ap, _∙_, subst}
 use mathlib.Core.Logic.{_↔_}
 use mathlib.Core.List.{List, [], _∷_, _++_, append-assoc, append-nil}
@@ -9,11 +9,14 @@ use native.Mathlib.Omega.{arith}
 use lib.ListN.{length, getD, drop, set, length-append, length-replicate, List·getD-append}
 use lib.Seq.{getD-append-add}
 use lib.IntN.{ℤ, pos}
-use lib.Signed.{ltZ, leZ}
-use lib.Dec.{T, eqb}
+use lib.Signed.{ltZ}
+use lib.Dec.{T, eqb, eqb→eq}
 use lib.Ieee.Bits.{is-true}
 use borrow.Author.Tests.{eqb-true, eqb-false}
-use Rattle.words.proofs.Absurd.{never}
+use Rattle.laws.proofs.Never.{never}
+use Rattle.laws.proofs.Bools.{is-false}
+use Rattle.refusal.specs.declared.Refusal.{Refusal}
+use Rattle.refusal.specs.declared.Refusal.the-variants.{WrongWord, SeEnds}
 use Rattle.words.specs.declared.Word.the-variants as W
 use Rattle.words.specs.Words.{wordAt}
 use Rattle.words.specs.IsWord.{IsWord}
@@ -21,38 +24,31 @@ use Rattle.words.specs.Breaks.{a-head, fits}
 use Rattle.words.proofs.IsWord.{read-at}
 use Rattle.words.proofs.Breaks.{stands, lacks, lacked, held-head, other-head}
 use Rattle.words.proofs.Front.{front-reads}
-use Rattle.machine_data.specs.Table.{inRange}
+use Rattle.machine_data.specs.Table.{dataCount, inRange}
+use Rattle.machine_data.specs.declared.MachineData.{MachineData}
+use Rattle.datum.specs.declared.DatumAnswer as D
+use Rattle.datum.specs.Datum.{valueAt}
+use Rattle.datum.proofs.Written.{Wrote, read-written}
 use Rattle.list.specs.declared.ListRead.{ListRead}
 use Rattle.list.specs.declared.ListAnswer as A
-use Rattle.list.specs.declared.Step as S
-use Rattle.list.specs.Reading.{stepAt, acceptance, refusal, ends, onStep, gather, zeros, readList}
-use Rattle.list.specs.IsList.{DataTo, DataFrom, end, datum}
-use Rattle.refusals.specs.IsFault.{DatumFault, IsFault, no-head, se1, se2}
+use Rattle.list.specs.Rules.{isHead, seBelow}
+use Rattle.list.specs.Reading.{acceptedList, refusedList, placeOf, ends, onValue, gather, zeros, readList}
+use Rattle.list.specs.IsList.{DataTo, end, datum}
+use Rattle.list.proofs.Steps.{ended-by, by-head}
+use Rattle.list.proofs.Passed.{behind, how-many, passed, all-passed, place-behind}
+use Rattle.refusals.specs.IsFault.{IsFault, no-head, se1, se2}
 use Rattle.refusals.specs.IsFault as F
-use Rattle.list.proofs.Steps.{ended-by, after-head}
-use Rattle.list.proofs.Written.{Wrote, read-written}
-use Rattle.refusals.proofs.Faults.{step-fault, fault-step}
-use Rattle.list.proofs.Passed.{behind, placeIn, how-many, place-here, passed, all-passed}
-use Rattle.list.proofs.Accepts.{not-le, lt-of-not-le}
+use Rattle.refusals.proofs.Data.{Faulty, value-fault, fault-value}
 
 -- ---- data before a number and from it on
 
--- a place, and the same with nothing behind it
-here : (at : ℕ) → at ≡ at + 0
-here at = omega arith
+joined : {j k l : ℕ} {vs vs′ : List ℤ} {ws ws′ : List ℕ} → DataTo j k vs ws → DataTo l j vs′ ws′ → (w : List ℕ) × (w ≡ ws ++ ws′) × DataTo l k (vs ++ vs′) w
+joined {ws′ = ws′} end y = (ws′, refl, y)
+joined {ws′ = ws′} (datum {w = w} {ws} g r x) y =
+    let t = joined x y in
+    (w ++ t .0, ap (λ (l : List ℕ). w ++ l) (t .1) ∙ sym (append-assoc w ws ws′), datum g r (t .2))
 
--- the place behind two runs of words
-further : (at : ℕ) (w b : List ℕ) → at + length w + length b ≡ at + length (w ++ b)
-further at w b = omega (arith, length-append w b)
-
-joined : {j k l : ℕ} {vs vs′ : List ℤ} {ws ws′ : List ℕ} → DataTo j k vs ws → DataTo l j vs′ ws′ → j < l →
-    (w : List ℕ) × (w ≡ ws ++ ws′) × (x : DataTo l k (vs ++ vs′) w) × ((at d : ℕ) → placeIn x j at d ≡ at + length ws)
-joined {ws′ = ws′} end y h = (ws′, refl, y, λ at d. place-here y at d h ∙ here at)
-joined {j} {ws′ = ws′} (datum {k} {w = w} {ws} g r x) y h =
-    let t = joined x y h in
-    (w ++ t .0, ap (λ (l : List ℕ). w ++ l) (t .1) ∙ sym (append-assoc w ws ws′), datum g r (t .2), λ at d. t .3 (at + length w) (cond (eqb k j) at d) ∙ further at w ws)
-
-record Parts (j : ℕ) {l k : ℕ} {vs : List ℤ} {ws : List ℕ} (x : DataTo l k vs ws) : Type 0 where
+record Parts (j l k : ℕ) (vs : List ℤ) (ws : List ℕ) : Type 0 where
   pub early : List ℤ
   pub late : List ℤ
   pub before : List ℕ
@@ -61,28 +57,13 @@ record Parts (j : ℕ) {l k : ℕ} {vs : List ℤ} {ws : List ℕ} (x : DataTo l
   pub second : DataTo l j late from
   pub values : vs ≡ early ++ late
   pub words : ws ≡ before ++ from
-  pub place : (at d : ℕ) → placeIn x j at d ≡ at + length before
 
-split : (j : ℕ) {l k : ℕ} {vs : List ℤ} {ws : List ℕ} (x : DataTo l k vs ws) → k ≤ j → j < l → Parts j x
+split : (j : ℕ) {l k : ℕ} {vs : List ℤ} {ws : List ℕ} → DataTo l k vs ws → k ≤ j → j < l → Parts j l k vs ws
 split j end h g = absurd (omega (arith, h, g))
 split j {l} (datum {k} {z} {vs} {w} {ws} h r x) low high = go (eqb k j) refl (λ a b. split j x a b)
   where
-    go : (t : Bool) → eqb k j ≡ t → (suc k ≤ j → j < l → Parts j x) → Parts j {l = l} (datum h r x)
-    go true q rest = subst (λ (i : ℕ). Parts i {l = l} (datum h r x)) (eqb-true k j q) (whole (omega (arith, high, eqb-true k j q)))
-      where
-        whole : k < l → Parts k {l = l} (datum h r x)
-        whole b =
-            record {
-              early = [];
-              late = z ∷ vs;
-              before = [];
-              from = w ++ ws;
-              first = end;
-              second = datum h r x;
-              values = refl;
-              words = refl;
-              place = λ at d. place-here {j = l} (datum h r x) at d b ∙ here at;
-            }
+    go : (t : Bool) → eqb k j ≡ t → (suc k ≤ j → j < l → Parts j l (suc k) vs ws) → Parts j l k (z ∷ vs) (w ++ ws)
+    go true q rest = subst (λ (i : ℕ). Parts i l k (z ∷ vs) (w ++ ws)) (eqb-true k j q) (record { early = []; late = z ∷ vs; before = []; from = w ++ ws; first = end; second = datum h r x; values = refl; words = refl })
     go false q rest =
         let t = rest (omega (arith, low, eqb-false k j q)) high in
         record {
@@ -94,167 +75,188 @@ split j {l} (datum {k} {z} {vs} {w} {ws} h r x) low high = go (eqb k j) refl (λ
           second = t .second;
           values = ap (λ (l : List ℤ). z ∷ l) (t .values);
           words = ap (λ (l : List ℕ). w ++ l) (t .words) ∙ sym (append-assoc w (t .before) (t .from));
-          place = λ at d. t .place (at + length w) (cond (eqb k j) at d) ∙ further at w (t .before);
         }
+
+-- SE's minus and plus behind p values, as they stand among all
+module _ (vs : List ℤ) (minus plus : ℤ) (later : List ℤ) (p : ℕ) (many : length vs ≡ p) where
+  behind-seam : (i j : ℕ) → j ≡ p + i → getD (vs ++ (minus ∷ plus ∷ later)) j (pos 0) ≡ getD (minus ∷ plus ∷ later) i (pos 0)
+  behind-seam i j e =
+      let at : j ≡ length vs + i = omega (arith, many, e) in
+      ap (λ (n : ℕ). getD (vs ++ (minus ∷ plus ∷ later)) n (pos 0)) at ∙ getD-append-add vs (minus ∷ plus ∷ later) i (pos 0)
+
+  compared : seBelow (vs ++ (minus ∷ plus ∷ later)) p ≡ ltZ minus plus
+  compared = λ i. ltZ (behind-seam 0 p (omega arith) i) (behind-seam 1 (suc p) (omega arith) i)
+
+-- an SE that stands before p values are passed
+before-seam : (vs more : List ℤ) (k : ℕ) → suc k < length vs → seBelow (vs ++ more) k ≡ seBelow vs k
+before-seam vs more k low = λ i. ltZ (List·getD-append vs more (pos 0) k (omega (arith, low)) i) (List·getD-append vs more (pos 0) (suc k) low i)
 
 -- ---- what is faulty is refused
 
-module _ (vs : List ℤ) (minus plus : ℤ) (later : List ℤ) (p : ℕ) (many : length vs ≡ p) where
-  at-seam : getD (vs ++ (minus ∷ plus ∷ later)) p (pos 0) ≡ minus
-  at-seam = let e : p ≡ length vs + 0 = omega (arith, many) in ap (λ (n : ℕ). getD (vs ++ (minus ∷ plus ∷ later)) n (pos 0)) e ∙ getD-append-add vs (minus ∷ plus ∷ later) 0 (pos 0)
+-- the data behind a head
+begun : {w n : ℕ} (ws : List ℕ) → IsWord w (W.Head n) → T (isHead n) → readList (w ∷ ws) ≡ gather n (w ∷ ws) 0 1 zeros
+begun {w} {n} ws h size = sym (by-head (w ∷ ws) (front-reads (w ∷ ws) 0 w ws refl h) (is-true (isHead n) size))
 
-  past-seam : getD (vs ++ (minus ∷ plus ∷ later)) (suc p) (pos 0) ≡ plus
-  past-seam = let e : suc p ≡ length vs + 1 = omega (arith, many) in ap (λ (n : ℕ). getD (vs ++ (minus ∷ plus ∷ later)) n (pos 0)) e ∙ getD-append-add vs (minus ∷ plus ∷ later) 1 (pos 0)
+-- all of them in two parts
+module _ {w n p : ℕ} {vs late : List ℤ} {before from : List ℕ} (rest : List ℕ) (h : IsWord w (W.Head n)) (size : T (isHead n)) (x : DataTo p 0 vs before) (y : DataTo n p late from) where
+  abbrev all-words : List ℕ
+  all-words = w ∷ (before ++ (from ++ rest))
 
-  compared : {t : Bool} → leZ plus minus ≡ t → leZ (getD (vs ++ (minus ∷ plus ∷ later)) (suc p) (pos 0)) (getD (vs ++ (minus ∷ plus ∷ later)) p (pos 0)) ≡ t
-  compared e = (λ i. leZ (past-seam i) (at-seam i)) ∙ e
+  to-ends : (m : ℕ) × (readList all-words ≡ ends all-words (record { values = vs ++ late; count = n }) m)
+  to-ends =
+      let t = joined x y in
+      let e : before ++ (from ++ rest) ≡ t .0 ++ rest = sym (append-assoc before from rest) ∙ ap (λ (l : List ℕ). l ++ rest) (sym (t .1)) in
+      (1 + length (t .0), begun (before ++ (from ++ rest)) h size ∙ all-passed (eqb→eq n dataCount size) (t .2) all-words rest e)
 
-pub refuses : {s : List ℕ} {n place : ℕ} → IsFault s n place → readList s ≡ refusal n place
+  at-minus : refusedList (SeEnds (placeOf all-words p)) ≡ refusedList (SeEnds (suc (length before)))
+  at-minus = let place : placeOf all-words p ≡ suc (length before) = omega (arith, place-behind x all-words (from ++ rest) refl) in ap (λ (i : ℕ). refusedList (SeEnds i)) place
+
+pub refuses : {s : List ℕ} {why : Refusal} → IsFault s why → readList s ≡ refusedList why
 unfolding readList gather
-refuses {s} (no-head none) = other-head (wordAt s 0) (gather 51 s 0 1 zeros 0 0) (refusal 1 0) (lacked a-head s 0 none)
-refuses (F.datum {w} {k} {n} {m} {vs} {before} {ws} h low x f) =
+refuses {s} (no-head none) = other-head isHead (wordAt s 0) (λ n. gather n s 0 1 zeros) (refusedList (WrongWord 0)) (lacked (a-head isHead) s 0 none)
+refuses (F.datum {w} {n} {k} {m} {cause} {vs} {before} {ws} h size low x f) =
     let s = w ∷ (before ++ ws) in
-    let y = passed (suc (50 - k)) x s 1 ws refl zeros (length-replicate 51 (pos 0)) 0 0 in
-    let many : 51 ≡ length vs + suc (50 - k) = omega (arith, how-many x, low) in
+    let y = passed (suc (n - suc k)) x s 1 ws refl zeros (length-replicate dataCount (pos 0)) in
+    let many : n ≡ length vs + suc (n - suc k) = omega (arith, how-many x, low) in
     let place : 1 + length before + m ≡ suc (length before + m) = omega arith in
-    sym (after-head s (front-reads s 0 w (before ++ ws) refl h))
-    ∙ ap (λ (i : ℕ). gather i s 0 1 zeros 0 0) many
+    begun (before ++ ws) h size
+    ∙ ap (λ (i : ℕ). gather i s 0 1 zeros) many
     ∙ y .3
-    ∙ ap (λ (t : S.Step). onStep t (λ z next. gather (50 - k) s (k + 1) next (set (y .0) k z) (cond (eqb k 11) (1 + length before) (placeIn x 11 1 0)) (cond (eqb k 13) (1 + length before) (placeIn x 13 1 0)))) (fault-step f s (1 + length before) (behind s 1 before ws refl))
-    ∙ ap (refusal n) place
-refuses (se1 {w} {minus} {plus} {vs} {later} {before} {behind = from} rest h x y wrong) =
-    let s = w ∷ (before ++ (from ++ rest)) in
-    let t = joined x y (omega arith) in
-    let e : before ++ (from ++ rest) ≡ t .0 ++ rest = sym (append-assoc before from rest) ∙ ap (λ (l : List ℕ). l ++ rest) (sym (t .1)) in
-    let all = vs ++ (minus ∷ plus ∷ later) in
+    ∙ ap (λ (t : D.DatumAnswer). onValue t (λ z next. gather (n - suc k) s (k + 1) next (set (y .0) k z))) (fault-value f s (1 + length before) (behind s 1 before ws refl))
+    ∙ ap (λ (i : ℕ). refusedList (cause i)) place
+refuses (se1 {w} {n} {minus} {plus} {vs} {later} {before} {behind = from} rest h size x y wrong) =
+    let t = to-ends rest h size x y in
+    let d : MachineData = record { values = vs ++ (minus ∷ plus ∷ later); count = n } in
     let many : length vs ≡ 11 = omega (arith, how-many x) in
-    let place : 1 + length before ≡ suc (length before) = omega arith in
-    sym (after-head s (front-reads s 0 w (before ++ (from ++ rest)) refl h))
-    ∙ all-passed (t .2) s rest e
-    ∙ sym (ended-by all (placeIn (t .2) 11 1 0) (placeIn (t .2) 13 1 0) (1 + length (t .0)) (compared vs minus plus later 11 many (is-true (leZ plus minus) wrong)) refl)
-    ∙ ap (refusal 5) (t .3 1 0 ∙ place)
-refuses (se2 {w} {minus} {plus} {vs} {later} {before} {behind = from} rest h x y right wrong) =
-    let s = w ∷ (before ++ (from ++ rest)) in
-    let t = joined x y (omega arith) in
-    let e : before ++ (from ++ rest) ≡ t .0 ++ rest = sym (append-assoc before from rest) ∙ ap (λ (l : List ℕ). l ++ rest) (sym (t .1)) in
-    let all = vs ++ (minus ∷ plus ∷ later) in
+    t .1
+    ∙ sym (ended-by (w ∷ (before ++ (from ++ rest))) d (t .0) (compared vs minus plus later 11 many ∙ is-false (ltZ minus plus) wrong) refl)
+    ∙ at-minus rest h size x y
+refuses (se2 {w} {n} {minus} {plus} {vs} {later} {before} {behind = from} rest h size x y right wrong) =
+    let t = to-ends rest h size x y in
+    let d : MachineData = record { values = vs ++ (minus ∷ plus ∷ later); count = n } in
     let many : length vs ≡ 13 = omega (arith, how-many x) in
-    let eleven = List·getD-append vs (minus ∷ plus ∷ later) (pos 0) 11 (omega (arith, many)) in
-    let twelve = List·getD-append vs (minus ∷ plus ∷ later) (pos 0) 12 (omega (arith, many)) in
-    let fine : leZ (getD all 12 (pos 0)) (getD all 11 (pos 0)) ≡ false = (λ i. leZ (twelve i) (eleven i)) ∙ not-le (getD vs 11 (pos 0)) (getD vs 12 (pos 0)) right in
-    let place : 1 + length before ≡ suc (length before) = omega arith in
-    sym (after-head s (front-reads s 0 w (before ++ (from ++ rest)) refl h))
-    ∙ all-passed (t .2) s rest e
-    ∙ sym (ended-by all (placeIn (t .2) 11 1 0) (placeIn (t .2) 13 1 0) (1 + length (t .0)) fine (compared vs minus plus later 13 many (is-true (leZ plus minus) wrong)))
-    ∙ ap (refusal 5) (t .3 1 0 ∙ place)
+    let fine : seBelow (vs ++ (minus ∷ plus ∷ later)) 11 ≡ true = before-seam vs (minus ∷ plus ∷ later) 11 (omega (arith, many)) ∙ is-true (seBelow vs 11) right in
+    t .1
+    ∙ sym (ended-by (w ∷ (before ++ (from ++ rest))) d (t .0) fine (compared vs minus plus later 13 many ∙ is-false (ltZ minus plus) wrong))
+    ∙ at-minus rest h size x y
 
 -- ---- what is refused is faulty
 
-put : {s s′ : List ℕ} {n n′ p p′ : ℕ} → s ≡ s′ → n ≡ n′ → p ≡ p′ → IsFault s n p → IsFault s′ n′ p′
-put a b c x = subst (λ (i : ℕ × ℕ × List ℕ). IsFault (i .2) (i .0) (i .1)) (λ i. (b i, c i, a i)) x
+put : {s s′ : List ℕ} {x y : Refusal} → s ≡ s′ → x ≡ y → IsFault s x → IsFault s′ y
+put a b f = subst (λ (i : List ℕ × Refusal). IsFault (i .0) (i .1)) (λ i. (a i, b i)) f
 
-module _ (s : List ℕ) (head : IsWord (getD s 0 0) W.Head) (whole : s ≡ getD s 0 0 ∷ drop 1 s) where
-  -- a faulty datum, or all 51
-  data Walked (n place : ℕ) : Type 0 where
-    faulty : IsFault s n place → Walked n place
-    complete : {vs : List ℤ} {ws : List ℕ} (rest : List ℕ) → DataFrom 0 vs ws → drop 1 s ≡ ws ++ rest → Walked n place
+answer : {x y : Refusal} → refusedList x ≡ refusedList y → x ≡ y
+answer {x} {y} e = let same : A.the-variants.Refused x ≡ A.the-variants.Refused y = ap (λ (r : ListRead). r .answer) e in cc
 
-  walk : (n place i k at : ℕ) (acc : List ℤ) (m m′ : ℕ) {vs : List ℤ} {ws : List ℕ} → DataTo k 0 vs ws → drop 1 s ≡ ws ++ drop at s → at ≡ 1 + length ws → i + k ≡ 51 →
-      gather i s k at acc m m′ ≡ refusal n place → Walked n place
+module _ (s : List ℕ) (n : ℕ) (head : IsWord (getD s 0 0) (W.Head n)) (size : T (isHead n)) (whole : s ≡ getD s 0 0 ∷ drop 1 s) where
+  -- a faulty datum, or all of them
+  data Walked (why : Refusal) : Type 0 where
+    faulty : IsFault s why → Walked why
+    complete : {vs : List ℤ} {ws : List ℕ} (rest : List ℕ) → DataTo n 0 vs ws → drop 1 s ≡ ws ++ rest → Walked why
+
+  walk : (why : Refusal) (i k at : ℕ) (acc : List ℤ) {vs : List ℤ} {ws : List ℕ} → DataTo k 0 vs ws → drop 1 s ≡ ws ++ drop at s → at ≡ 1 + length ws → i + k ≡ n →
+      gather i s k at acc ≡ refusedList why → Walked why
   unfolding gather
-  walk n place zero k at acc m m′ {vs} {ws} x e here c r = let last : k ≡ 51 = omega (arith, c) in complete (drop at s) (subst (λ (j : ℕ). DataTo j 0 vs ws) last x) e
-  walk n place (suc i) k at acc m m′ {vs} {ws} x e here c r =
-      go (stepAt s k at) (read-written s k at) (λ a b. step-fault s k at {n = a} {place = b})
-      (λ z next vs′ ws′. walk n place i (k + 1) next (set acc k z) (cond (eqb k 11) at m) (cond (eqb k 13) at m′) {vs = vs′} {ws = ws′}) r
+  walk why zero k at acc {vs} {ws} x e here c r = let last : k ≡ n = omega (arith, c) in complete (drop at s) (subst (λ (j : ℕ). DataTo j 0 vs ws) last x) e
+  walk why (suc i) k at acc {vs} {ws} x e here c r =
+      go (valueAt s k at) (read-written s k at) (λ y. value-fault s k at {why = y})
+      (λ z next vs′ ws′. walk why i (k + 1) next (set acc k z) {vs = vs′} {ws = ws′}) r
     where
-      go : (t : S.Step) → ((z : ℤ) (next : ℕ) → t ≡ S.the-variants.Value z next → Wrote s k at z next × T (inRange k z)) →
-          ((a b : ℕ) → t ≡ S.the-variants.Refused a b → (q : ℕ) × (b ≡ at + q) × DatumFault k (drop at s) a q) →
-          ((z : ℤ) (next : ℕ) (vs′ : List ℤ) (ws′ : List ℕ) → DataTo (k + 1) 0 vs′ ws′ → drop 1 s ≡ ws′ ++ drop next s → next ≡ 1 + length ws′ → i + (k + 1) ≡ 51 →
-          gather i s (k + 1) next (set acc k z) (cond (eqb k 11) at m) (cond (eqb k 13) at m′) ≡ refusal n place → Walked n place) →
-          onStep t (λ z next. gather i s (k + 1) next (set acc k z) (cond (eqb k 11) at m) (cond (eqb k 13) at m′)) ≡ refusal n place → Walked n place
-      go (S.the-variants.Value z next) wrote fault rest g =
+      go : (t : D.DatumAnswer) → ((z : ℤ) (next : ℕ) → t ≡ D.the-variants.Value z next → Wrote s k at z next × T (inRange k z)) →
+          ((y : Refusal) → t ≡ D.the-variants.Refused y → Faulty s k at y) →
+          ((z : ℤ) (next : ℕ) (vs′ : List ℤ) (ws′ : List ℕ) → DataTo (k + 1) 0 vs′ ws′ → drop 1 s ≡ ws′ ++ drop next s → next ≡ 1 + length ws′ → i + (k + 1) ≡ n →
+          gather i s (k + 1) next (set acc k z) ≡ refusedList why → Walked why) →
+          onValue t (λ z next. gather i s (k + 1) next (set acc k z)) ≡ refusedList why → Walked why
+      go (D.the-variants.Value z next) wrote fault rest g =
           let both = wrote z next refl in
           let w = both .0 in
-          let t = joined {l = suc k} x (datum (w .written) (both .1) end) (omega arith) in
+          let t = joined {l = suc k} x (datum (w .written) (both .1) end) in
           let is : t .0 ≡ ws ++ w .words = t .1 ∙ ap (λ (l : List ℕ). ws ++ l) (append-nil (w .words)) in
           rest z next (vs ++ (z ∷ [])) (t .0) (subst (λ (j : ℕ). DataTo j 0 (vs ++ (z ∷ [])) (t .0)) (sym (add-one k)) (t .2))
           (e ∙ ap (λ (l : List ℕ). ws ++ l) (w .here) ∙ sym (append-assoc ws (w .words) (drop next s)) ∙ ap (λ (l : List ℕ). l ++ drop next s) (sym is))
           (omega (arith, w .far, here, ap length is, length-append ws (w .words)))
           (omega (arith, c))
           g
-      go (S.the-variants.Refused a b) wrote fault rest g =
-          let f = fault a b refl in
-          let answer : A.the-variants.Refused a b ≡ A.the-variants.Refused n place = ap (λ (y : ListRead). y .answer) g in
-          let number : a ≡ n = cc in
-          let spot : b ≡ place = cc in
-          let low : k < 51 = omega (arith, c) in
-          faulty (put (sym (whole ∙ ap (λ (l : List ℕ). getD s 0 0 ∷ l) e)) number (omega (arith, f .1, here, spot)) (F.datum head low x (f .2)))
+      go (D.the-variants.Refused y) wrote fault rest g =
+          let f = fault y refl in
+          let far : suc (length ws + f .1) ≡ at + f .1 = omega (arith, here) in
+          faulty (put (sym (whole ∙ ap (λ (l : List ℕ). getD s 0 0 ∷ l) e)) (ap (f .0) far ∙ sym (f .2) ∙ answer g) (F.datum head size (omega (arith, c)) x (f .3)))
 
-  ends-fault : {vs : List ℤ} {ws : List ℕ} (rest : List ℕ) (x : DataFrom 0 vs ws) → drop 1 s ≡ ws ++ rest → (at : ℕ) {n place : ℕ} →
-      ends vs (placeIn x 11 1 0) (placeIn x 13 1 0) at ≡ refusal n place → IsFault s n place
-  unfolding ends
-  ends-fault {vs} {ws} rest x e at {n} {place} = go (leZ (getD vs 12 (pos 0)) (getD vs 11 (pos 0))) refl (leZ (getD vs 14 (pos 0)) (getD vs 13 (pos 0))) refl
+  module _ {vs : List ℤ} {ws : List ℕ} (rest : List ℕ) (x : DataTo n 0 vs ws) (e : drop 1 s ≡ ws ++ rest) where
+    -- the data about SE's minus, datum p, and its plus
+    record Pair (p : ℕ) : Type 0 where
+      pub early : List ℤ
+      pub minus : ℤ
+      pub plus : ℤ
+      pub later : List ℤ
+      pub before : List ℕ
+      pub from : List ℕ
+      pub first : DataTo p 0 early before
+      pub second : DataTo n p (minus ∷ plus ∷ later) from
+      pub values : vs ≡ early ++ (minus ∷ plus ∷ later)
+      pub laid : getD s 0 0 ∷ (before ++ (from ++ rest)) ≡ s
+      pub place : placeOf s p ≡ suc (length before)
+
+    pair : (p : ℕ) → suc p < n → Pair p
+    pair p low =
+        let t = split p x (omega arith) (omega (arith, low)) in
+        let l = two (t .late) (how-many (t .second)) in
+        let at : drop 1 s ≡ t .before ++ (t .from ++ rest) = e ∙ ap (λ (l : List ℕ). l ++ rest) (t .words) ∙ append-assoc (t .before) (t .from) rest in
+        record {
+          early = t .early;
+          minus = l .0;
+          plus = l .1;
+          later = l .2;
+          before = t .before;
+          from = t .from;
+          first = t .first;
+          second = subst (λ (y : List ℤ). DataTo n p y (t .from)) (l .3) (t .second);
+          values = t .values ∙ ap (λ (y : List ℤ). t .early ++ y) (l .3);
+          laid = ap (λ (l : List ℕ). getD s 0 0 ∷ l) (sym at) ∙ sym whole;
+          place = omega (arith, place-behind (t .first) s (t .from ++ rest) at);
+        }
+      where
+        two : (l : List ℤ) → p + length l ≡ n → (minus : ℤ) × (plus : ℤ) × (later : List ℤ) × (l ≡ minus ∷ plus ∷ later)
+        two [] c = absurd (omega (arith, c, low))
+        two (a ∷ []) c = absurd (omega (arith, c, low))
+        two (a ∷ b ∷ l) c = (a, b, l, refl)
+
+    wrong : (p : ℕ) (t : Pair p) → seBelow vs p ≡ false → T (ltZ (t .minus) (t .plus)) → ⊥
+    wrong p t q =
+        let many : length (t .early) ≡ p = omega (arith, how-many (t .first)) in
+        subst T (sym (compared (t .early) (t .minus) (t .plus) (t .later) p many) ∙ ap (λ (l : List ℤ). seBelow l p) (sym (t .values)) ∙ q)
+
+    ends-fault : (at : ℕ) {why : Refusal} → ends s (record { values = vs; count = n }) at ≡ refusedList why → IsFault s why
+    unfolding ends
+    ends-fault at {why} = go (seBelow vs 11) refl (seBelow vs 13) refl
+      where
+        enough : n ≡ dataCount
+        enough = eqb→eq n dataCount size
+
+        go : (a : Bool) → seBelow vs 11 ≡ a → (b : Bool) → seBelow vs 13 ≡ b →
+            cond a (cond b (acceptedList (record { values = vs; count = n }) at) (refusedList (SeEnds (placeOf s 13)))) (refusedList (SeEnds (placeOf s 11))) ≡ refusedList why → IsFault s why
+        go false p b q g = let t = pair 11 (omega (arith, enough)) in put (t .laid) (ap SeEnds (sym (t .place)) ∙ answer g) (se1 rest head size (t .first) (t .second) (wrong 11 t p))
+        go true p false q g =
+            let t = pair 13 (omega (arith, enough)) in
+            let low : 12 < length (t .early) = omega (arith, how-many (t .first)) in
+            let right : seBelow (t .early) 11 ≡ true = sym (before-seam (t .early) _ 11 low) ∙ ap (λ (l : List ℤ). seBelow l 11) (sym (t .values)) ∙ p in
+            put (t .laid) (ap SeEnds (sym (t .place)) ∙ answer g) (se2 rest head size (t .first) (t .second) (subst T (sym right) tt) (wrong 13 t q))
+        go true p true q g = never (cc (ap (λ (y : ListRead). y .answer) g))
+
+  refused-behind : {why : Refusal} → gather n s 0 1 zeros ≡ refusedList why → IsFault s why
+  refused-behind {why} r = go (walk why n 0 1 zeros end refl refl (omega arith) r)
     where
-      -- SE's minus and plus lead the data from number p on
-      pair : (p : ℕ) (t : Parts p x) → p < 50 → (minus : ℤ) × (plus : ℤ) × (later : List ℤ) × (t .late ≡ minus ∷ plus ∷ later)
-      pair p t low = two (t .late) (how-many (t .second))
-        where
-          two : (l : List ℤ) → p + length l ≡ 51 → (minus : ℤ) × (plus : ℤ) × (later : List ℤ) × (l ≡ minus ∷ plus ∷ later)
-          two [] c = absurd (omega (arith, c, low))
-          two (a ∷ []) c = absurd (omega (arith, c, low))
-          two (a ∷ b ∷ l) c = (a, b, l, refl)
-
-      laid : (t : List ℕ) (u : List ℕ) → ws ≡ t ++ u → getD s 0 0 ∷ (t ++ (u ++ rest)) ≡ s
-      laid t u q = ap (λ (l : List ℕ). getD s 0 0 ∷ l) (sym (append-assoc t u rest) ∙ ap (λ (l : List ℕ). l ++ rest) (sym q) ∙ sym e) ∙ sym whole
-
-      -- minus and plus as they stand among all the values
-      wrong : (p : ℕ) (t : Parts p x) (minus plus : ℤ) (later : List ℤ) → t .late ≡ minus ∷ plus ∷ later → leZ (getD vs (suc p) (pos 0)) (getD vs p (pos 0)) ≡ true → T (leZ plus minus)
-      wrong p t minus plus later is q =
-          let many : length (t .early) ≡ p = omega (arith, how-many (t .first)) in
-          let same : vs ≡ t .early ++ (minus ∷ plus ∷ later) = t .values ∙ ap (λ (l : List ℤ). t .early ++ l) is in
-          subst T (sym (sym (compared (t .early) minus plus later p many refl) ∙ ap (λ (l : List ℤ). leZ (getD l (suc p) (pos 0)) (getD l p (pos 0))) (sym same) ∙ q)) tt
-
-      go : (a : Bool) → leZ (getD vs 12 (pos 0)) (getD vs 11 (pos 0)) ≡ a → (b : Bool) → leZ (getD vs 14 (pos 0)) (getD vs 13 (pos 0)) ≡ b →
-          cond a (refusal 5 (placeIn x 11 1 0)) (cond b (refusal 5 (placeIn x 13 1 0)) (acceptance vs at)) ≡ refusal n place → IsFault s n place
-      go true p b q g =
-          let answer : A.the-variants.Refused 5 (placeIn x 11 1 0) ≡ A.the-variants.Refused n place = ap (λ (y : ListRead). y .answer) g in
-          let number : 5 ≡ n = cc in
-          let spot : placeIn x 11 1 0 ≡ place = cc in
-          let t = split 11 x (omega arith) (omega arith) in
-          let d = pair 11 t (omega arith) in
-          let y : DataFrom 11 (d .0 ∷ d .1 ∷ d .2) (t .from) = subst (λ (l : List ℤ). DataFrom 11 l (t .from)) (d .3) (t .second) in
-          put (laid (t .before) (t .from) (t .words)) number (omega (arith, t .place 1 0, spot)) (se1 rest head (t .first) y (wrong 11 t (d .0) (d .1) (d .2) (d .3) p))
-      go false p true q g =
-          let answer : A.the-variants.Refused 5 (placeIn x 13 1 0) ≡ A.the-variants.Refused n place = ap (λ (y : ListRead). y .answer) g in
-          let number : 5 ≡ n = cc in
-          let spot : placeIn x 13 1 0 ≡ place = cc in
-          let t = split 13 x (omega arith) (omega arith) in
-          let d = pair 13 t (omega arith) in
-          let y : DataFrom 13 (d .0 ∷ d .1 ∷ d .2) (t .from) = subst (λ (l : List ℤ). DataFrom 13 l (t .from)) (d .3) (t .second) in
-          let many : length (t .early) ≡ 13 = omega (arith, how-many (t .first)) in
-          let eleven : getD vs 11 (pos 0) ≡ getD (t .early) 11 (pos 0) = ap (λ (l : List ℤ). getD l 11 (pos 0)) (t .values) ∙ List·getD-append (t .early) (t .late) (pos 0) 11 (omega (arith, many)) in
-          let twelve : getD vs 12 (pos 0) ≡ getD (t .early) 12 (pos 0) = ap (λ (l : List ℤ). getD l 12 (pos 0)) (t .values) ∙ List·getD-append (t .early) (t .late) (pos 0) 12 (omega (arith, many)) in
-          let right : T (ltZ (getD (t .early) 11 (pos 0)) (getD (t .early) 12 (pos 0))) = subst T (λ i. ltZ (eleven i) (twelve i)) (lt-of-not-le (getD vs 11 (pos 0)) (getD vs 12 (pos 0)) p) in
-          put (laid (t .before) (t .from) (t .words)) number (omega (arith, t .place 1 0, spot)) (se2 rest head (t .first) y right (wrong 13 t (d .0) (d .1) (d .2) (d .3) q))
-      go false p false q g = never (cc (ap (λ (y : ListRead). y .answer) g))
-
-  refused-behind : {n place : ℕ} → gather 51 s 0 1 zeros 0 0 ≡ refusal n place → IsFault s n place
-  refused-behind {n} {place} r = go (walk n place 51 0 1 zeros 0 0 end refl refl refl r)
-    where
-      go : Walked n place → IsFault s n place
+      go : Walked why → IsFault s why
       go (faulty x) = x
-      go (complete {ws = ws} rest x e) = ends-fault rest x e (1 + length ws) (sym (all-passed x s rest e) ∙ r)
+      go (complete {ws = ws} rest x e) = ends-fault rest x e (1 + length ws) (sym (all-passed (eqb→eq n dataCount size) x s rest e) ∙ r)
 
-pub refused : (s : List ℕ) (n place : ℕ) → (readList s ≡ refusal n place) ↔ IsFault s n place
+pub refused : (s : List ℕ) (why : Refusal) → (readList s ≡ refusedList why) ↔ IsFault s why
 unfolding readList
-refused s n place = (go (fits a-head (wordAt s 0)) refl, refuses)
+refused s why = (go (fits (a-head isHead) (wordAt s 0)) refl, refuses)
   where
-    go : (t : Bool) → fits a-head (wordAt s 0) ≡ t → readList s ≡ refusal n place → IsFault s n place
+    go : (t : Bool) → fits (a-head isHead) (wordAt s 0) ≡ t → readList s ≡ refusedList why → IsFault s why
     go true q r =
-        let t : T (fits a-head (wordAt s 0)) = subst T (sym q) tt in
-        let h = held-head (wordAt s 0) t in
-        refused-behind s (read-at s 0 h (λ x. never (cc))) (stands a-head s 0 t .2) (after-head s h ∙ r)
-    go false q r =
-        let same : refusal 1 0 ≡ refusal n place = sym (other-head (wordAt s 0) (gather 51 s 0 1 zeros 0 0) (refusal 1 0) q) ∙ r in
-        let answer : A.the-variants.Refused 1 0 ≡ A.the-variants.Refused n place = ap (λ (y : ListRead). y .answer) same in
-        put refl (cc) (cc) (no-head (lacks a-head s 0 q))
+        let t : T (fits (a-head isHead) (wordAt s 0)) = subst T (sym q) tt in
+        let h = held-head isHead (wordAt s 0) t in
+        refused-behind s (h .0) (read-at s 0 (h .1) (λ x. never (cc))) (h .2) (stands (a-head isHead) s 0 t .2) (by-head s (h .1) (is-true (isHead (h .0)) (h .2)) ∙ r)
+    go false q r = put refl (answer (sym (other-head isHead (wordAt s 0) (λ n. gather n s 0 1 zeros) (refusedList (WrongWord 0)) q) ∙ r)) (no-head (lacks (a-head isHead) s 0 q))

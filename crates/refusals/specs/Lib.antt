@@ -1,2 +1,3 @@
+pub mod DatumFault
 pub mod IsFault
-pub mod KitFault
+pub mod ListsFault

@@ -1,1 +1,1 @@
-// What is wrong with a list or a kit, with its number and its place: definitions and laws, and no function.
+// What is wrong with a list or with the lists of a kit, and where: definitions and laws, and no function.

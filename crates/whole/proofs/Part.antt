@@ -12,7 +12,7 @@ use lib.Ieee.Fits.{two, reach}
 use lib.Ieee.Nearest.{div-same}
 use borrow.Author.Tests.{leb-true, leb-false, lt-leb}
 use Rattle.whole.specs.Whole.{limit}
-use Rattle.whole.specs.Bits.{wholePart, digits, partOf}
+use Rattle.whole.specs.Bits.{wholePart, patternDigits, partOf}
 
 -- ---- within the limit
 
@@ -30,14 +30,14 @@ wholePart-within x bias t h = go (leb bias x) (leb (x - bias) 26) refl
     go true false p = omega arith
     go false b p = omega arith
 
-digits-lt : (f : Format) (t : ℕ) → t < hid f → digits f t < 2 ^ 52
+digits-lt : (f : Format) (t : ℕ) → t < hid f → patternDigits f t < 2 ^ 52
 digits-lt binary32 t h = shl-lt 23 29 h
 digits-lt binary64 t h = h
 
 pub partOf-within : (f : Format) (b : ℕ) → partOf f b ≤ limit
 partOf-within f b =
     let t = b % hid f in
-    wholePart-within (b % top f / hid f) (emax f) (digits f t) (digits-lt f t (mod-lt b (pow-pos (prec f - 1))))
+    wholePart-within (b % top f / hid f) (emax f) (patternDigits f t) (digits-lt f t (mod-lt b (pow-pos (prec f - 1))))
 
 -- ---- the whole part of the size that an exponent field and the digits t give
 
@@ -45,7 +45,7 @@ lead-lt : (f : Format) (t : ℕ) → t < hid f → hid f + t < 2 ^ prec f
 lead-lt binary32 t h = omega arith
 lead-lt binary64 t h = omega arith
 
-widened : (f : Format) (t : ℕ) → (hid f + t) * 2 ^ (53 - prec f) ≡ 2 ^ 52 + digits f t
+widened : (f : Format) (t : ℕ) → (hid f + t) * 2 ^ (53 - prec f) ≡ 2 ^ 52 + patternDigits f t
 widened binary32 t = add-mul (2 ^ 23) t (2 ^ 29)
 widened binary64 t = mul-one (2 ^ 52 + t)
 
@@ -61,7 +61,7 @@ abbrev pub wholeSize : Format → ℕ → ℕ → ℕ
 wholeSize f q j = q * 2 ^ j / 2 ^ low f
 
 module _ (f : Format) (t : ℕ) (small : t < hid f) where
-  pub part-is-0 : wholeSize f t 0 ≡ wholePart 0 (emax f) (digits f t)
+  pub part-is-0 : wholeSize f t 0 ≡ wholePart 0 (emax f) (patternDigits f t)
   part-is-0 =
       let p = two f in
       let r = reach f in
@@ -71,13 +71,13 @@ module _ (f : Format) (t : ℕ) (small : t < hid f) where
   below-1 : (j : ℕ) → suc j < emax f → wholeSize f (hid f + t) j ≡ 0
   below-1 j h = div-eq-of-lt (lt-of-lt-of-le (shl-lt (prec f) j (lead-lt f t small)) (pow-mono (omega arith)))
 
-  up-to-limit : (j : ℕ) → emax f ≤ suc j → suc j - emax f ≤ 26 → wholeSize f (hid f + t) j ≡ (2 ^ 52 + digits f t) / 2 ^ (52 - (suc j - emax f))
+  up-to-limit : (j : ℕ) → emax f ≤ suc j → suc j - emax f ≤ 26 → wholeSize f (hid f + t) j ≡ (2 ^ 52 + patternDigits f t) / 2 ^ (52 - (suc j - emax f))
   up-to-limit j lo hi =
       let p = two f in
       let r = narrow f in
       let k = 52 - (suc j - emax f) in
       let same : j + k ≡ (53 - prec f) + low f = omega arith in
-      div-same ((hid f + t) * 2 ^ j) (2 ^ low f) (2 ^ 52 + digits f t) (2 ^ k) (pow-pos (low f)) (pow-pos k)
+      div-same ((hid f + t) * 2 ^ j) (2 ^ low f) (2 ^ 52 + patternDigits f t) (2 ^ k) (pow-pos (low f)) (pow-pos k)
       (joined (hid f + t) j k
       ∙ ap (λ (i : ℕ). (hid f + t) * 2 ^ i) same
       ∙ sym (joined (hid f + t) (53 - prec f) (low f))
@@ -91,11 +91,11 @@ module _ (f : Format) (t : ℕ) (small : t < hid f) where
       (le-trans (pow-mono (omega arith))
       (le-trans (le-of-eq (pow-add 2 (prec f - 1) j)) (mul-le-mul-right (2 ^ j) (le-add-right (hid f) t)))))
 
-  pub part-is : (j : ℕ) → wholeSize f (hid f + t) j ≤ limit → wholeSize f (hid f + t) j ≡ wholePart (suc j) (emax f) (digits f t)
+  pub part-is : (j : ℕ) → wholeSize f (hid f + t) j ≤ limit → wholeSize f (hid f + t) j ≡ wholePart (suc j) (emax f) (patternDigits f t)
   part-is j l = go (leb (emax f) (suc j)) refl (leb (suc j - emax f) 26) refl
     where
       go : (a : Bool) → leb (emax f) (suc j) ≡ a → (b : Bool) → leb (suc j - emax f) 26 ≡ b
-          → wholeSize f (hid f + t) j ≡ cond (a && b) ((2 ^ 52 + digits f t) / 2 ^ (52 - (suc j - emax f))) 0
+          → wholeSize f (hid f + t) j ≡ cond (a && b) ((2 ^ 52 + patternDigits f t) / 2 ^ (52 - (suc j - emax f))) 0
       go true p true q = up-to-limit j (leb-true _ _ p) (leb-true _ _ q)
       go true p false q = absurd (lt-irrefl limit (lt-of-lt-of-le (beyond-limit j (leb-false _ _ q)) l))
       go false p b q = below-1 j (leb-false _ _ p)

@@ -16,7 +16,7 @@ use Rattle.whole.specs.declared.Whole.{Whole}
 use Rattle.whole.specs.declared.Whole.the-variants.{Is, Not}
 use Rattle.whole.specs.Whole.{limit, exact, wholeOf}
 use Rattle.whole.specs.Stands.{StandsFor}
-use Rattle.whole.specs.Bits.{wholePart, digits, partOf, withSign, numberOf, compared}
+use Rattle.whole.specs.Bits.{wholePart, patternDigits, partOf, withSign, patternNumber, compared}
 use Rattle.whole.proofs.Equal.{infinite-differs, equals-whole, turned-back}
 use Rattle.whole.proofs.Stands.{stands}
 use Rattle.whole.proofs.Part.{partOf-within, wholeSize, part-is-0, part-is}
@@ -39,18 +39,18 @@ module _ (f : Format) (s : Bool) (t : ℕ) (small : t < hid f) (z : ℤ) where
   odd-gives q j n whole =
       value-gives (odd (prec f) s q j (low f)) s (q * 2 ^ j) (2 ^ low f) n (pow-pos (low f)) (odd-sign (prec f) s q j (low f)) whole z
 
-  fields-give : (x : ℕ) → StandsFor (ofFields f s x t) z → withSign s (wholePart x (emax f) (digits f t)) ≡ z
+  fields-give : (x : ℕ) → StandsFor (ofFields f s x t) z → withSign s (wholePart x (emax f) (patternDigits f t)) ≡ z
   unfolding ofFields eq
-  fields-give zero h = odd-gives t 0 (wholePart 0 (emax f) (digits f t)) (λ _. part-is-0 f t small) h
+  fields-give zero h = odd-gives t 0 (wholePart 0 (emax f) (patternDigits f t)) (λ _. part-is-0 f t small) h
   fields-give (suc j) h = go (eqb (suc j) (ones f)) (eqb t 0) h
     where
       go : (a b : Bool) → StandsFor (cond a (cond b (inf s) nan) (odd (prec f) s (hid f + t) j (low f))) z
-          → withSign s (wholePart (suc j) (emax f) (digits f t)) ≡ z
+          → withSign s (wholePart (suc j) (emax f) (patternDigits f t)) ≡ z
       go true true k = absurd (infinite-differs s z (k .equals))
       go true false k = absurd (k .equals)
-      go false b k = odd-gives (hid f + t) j (wholePart (suc j) (emax f) (digits f t)) (part-is f t small j) k
+      go false b k = odd-gives (hid f + t) j (wholePart (suc j) (emax f) (patternDigits f t)) (part-is f t small j) k
 
-bits-give : (f : Format) (x : Float) → T (fits f x) → (z : ℤ) → StandsFor x z → numberOf f (toBits f x) ≡ z
+bits-give : (f : Format) (x : Float) → T (fits f x) → (z : ℤ) → StandsFor x z → patternNumber f (toBits f x) ≡ z
 unfolding ofBits
 bits-give f x fit z h =
     let b = toBits f x in
@@ -79,9 +79,9 @@ withSign-size true zero = refl
 withSign-size true (suc n) = refl
 
 -- "The whole-number reading of floats is proved over their width": f is any format, x any float that it holds
-pub reading : (f : Format) (x : Float) → T (fits f x) → compared x (numberOf f (toBits f x)) ≡ wholeOf x
+pub reading : (f : Format) (x : Float) → T (fits f x) → compared x (patternNumber f (toBits f x)) ≡ wholeOf x
 reading f x fit =
     let b = toBits f x in
-    let z = numberOf f b in
+    let z = patternNumber f b in
     let small : natAbs z ≤ limit = le-trans (le-of-eq (withSign-size (leb (top f) b) (partOf f b))) (partOf-within f b) in
     ap (λ (q : Bool). cond q (Is z) Not) (turned-back x z small) ∙ decides x z small (bits-give f x fit)

@@ -12,21 +12,21 @@ abbrev pub wholePart : ℕ → ℕ → ℕ → ℕ
 wholePart x bias t = cond (leb bias x && leb (x - bias) 26) ((2 ^ 52 + t) / 2 ^ (52 - (x - bias))) 0
 
 -- A pattern's digits, counted in 2 ^ -52: a binary32 has 29 fewer.
-abbrev pub digits : Format → ℕ → ℕ
-digits binary32 t = t * 2 ^ 29
-digits binary64 t = t
+abbrev pub patternDigits : Format → ℕ → ℕ
+patternDigits binary32 t = t * 2 ^ 29
+patternDigits binary64 t = t
 
 -- The whole part of a pattern's magnitude, from its exponent field and its digits.
 abbrev pub partOf : Format → ℕ → ℕ
-partOf f b = wholePart (b % top f / hid f) (emax f) (digits f (b % hid f))
+partOf f b = wholePart (b % top f / hid f) (emax f) (patternDigits f (b % hid f))
 
 -- n, negative if s is true; minus zero is 0.
 abbrev pub withSign : Bool → ℕ → ℤ
 withSign s n = cond s (negℤ (pos n)) (pos n)
 
 -- The number of a pattern, without its fraction.
-abbrev pub numberOf : Format → ℕ → ℤ
-numberOf f b = withSign (leb (top f) b) (partOf f b)
+abbrev pub patternNumber : Format → ℕ → ℤ
+patternNumber f b = withSign (leb (top f) b) (partOf f b)
 
 -- z, if x equals z turned back into a binary64.
 abbrev pub compared : Float → ℤ → Whole

@@ -3,7 +3,7 @@ ghost use mathlib.Core.Path.{_≡_};
 ghost use Prim.Native.Nat.{_^_, _≤_, _<_};
 ghost use lib.Ieee.{binary32, binary64, ofBits};
 ghost use Rattle.whole.specs.Whole.{limit, wholeOf};
-ghost use Rattle.whole.specs.Bits.{wholePart, withSign, numberOf, compared};
+ghost use Rattle.whole.specs.Bits.{wholePart, withSign, patternNumber, compared};
 
 // A float stands for a whole number or for none.
 pub enum Whole {
@@ -97,7 +97,7 @@ fn compared(x: f64, z: i32) -> Whole
 
 // The number of a bit pattern, without its fraction.
 fn number_single(bits: u32) -> i32
-    ensures { λ r. ⌜ r ≡ numberOf binary32 bits ⌝ }
+    ensures { λ r. ⌜ r ≡ patternNumber binary32 bits ⌝ }
 {
     let field = bits % SINGLE_SIGN / SINGLE_LEAD;
     let digits = (bits % SINGLE_LEAD) as u64 * SPREAD;
@@ -105,7 +105,7 @@ fn number_single(bits: u32) -> i32
 }
 
 fn number_double(bits: u64) -> i32
-    ensures { λ r. ⌜ r ≡ numberOf binary64 bits ⌝ }
+    ensures { λ r. ⌜ r ≡ patternNumber binary64 bits ⌝ }
 {
     let field = (bits % DOUBLE_SIGN / DOUBLE_LEAD) as u32;
     let digits = bits % DOUBLE_LEAD;

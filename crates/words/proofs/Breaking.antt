@@ -9,10 +9,10 @@ use lib.ListN.{getD, drop}
 use lib.IntN.{ℤ}
 use lib.Dec.{T}
 use Rattle.words.specs.declared.Word.{Word}
-use Rattle.words.specs.declared.Word.the-variants.{Head, Datum, Piece, Position, Lower, Upper, End, Remark, Other}
 use Rattle.words.specs.Words.{wordAt}
 use Rattle.words.specs.Cases.{ifPosition, ifLower, ifUpper, ifEnd, ifRemark}
 use Rattle.words.specs.Breaks.{Sort, a-position, a-lower, an-upper, an-end, a-remark, fits, Breaks, here, later}
+use Rattle.words.proofs.Cases.{Case, met as was, missed as was-not, case-position, case-lower, case-upper, case-end, case-remark}
 use Rattle.words.proofs.Front.{behind}
 use Rattle.words.proofs.Breaks.{stands, lacks}
 
@@ -31,25 +31,24 @@ pub onward : {A B C : Type 0} {k : Sort} {x : Word} {held : B → A} {other r : 
 onward f (met b t) = met b t
 onward f (missed q) = missed q
 
+by-sort : {A B : Type 0} {k : Sort} {made : B → Word} {x : Word} {held : B → A} {other r : A} → Case (fits k) made x held other r → ((b : B) → T (fits k (made b))) → Choice k x held other r
+by-sort {k} (was b e) fit = met b (subst (λ (y : Word). T (fits k y)) (sym e) (fit b))
+by-sort (was-not q) fit = missed q
+
 pub by-position : {A : Type 0} (x : Word) (held : ℤ → A) (other : A) → Choice a-position x held other (ifPosition x held other)
-by-position x held other =
-    elim x [ Head ↦ missed refl | Datum k f ↦ missed refl | Piece b ↦ missed refl | Position z ↦ met z tt | Lower b ↦ missed refl | Upper b ↦ missed refl | End a ↦ missed refl | Remark ↦ missed refl | Other ↦ missed refl ]
+by-position x held other = by-sort (case-position x held other) (λ b. tt)
 
 pub by-lower : {A : Type 0} (x : Word) (held : ℕ → A) (other : A) → Choice a-lower x held other (ifLower x held other)
-by-lower x held other =
-    elim x [ Head ↦ missed refl | Datum k f ↦ missed refl | Piece b ↦ missed refl | Position z ↦ missed refl | Lower b ↦ met b tt | Upper b ↦ missed refl | End a ↦ missed refl | Remark ↦ missed refl | Other ↦ missed refl ]
+by-lower x held other = by-sort (case-lower x held other) (λ b. tt)
 
 pub by-upper : {A : Type 0} (x : Word) (held : ℕ → A) (other : A) → Choice an-upper x held other (ifUpper x held other)
-by-upper x held other =
-    elim x [ Head ↦ missed refl | Datum k f ↦ missed refl | Piece b ↦ missed refl | Position z ↦ missed refl | Lower b ↦ missed refl | Upper b ↦ met b tt | End a ↦ missed refl | Remark ↦ missed refl | Other ↦ missed refl ]
+by-upper x held other = by-sort (case-upper x held other) (λ b. tt)
 
 pub by-end : {A : Type 0} (x : Word) (held : Bool → A) (other : A) → Choice an-end x held other (ifEnd x held other)
-by-end x held other =
-    elim x [ Head ↦ missed refl | Datum k f ↦ missed refl | Piece b ↦ missed refl | Position z ↦ missed refl | Lower b ↦ missed refl | Upper b ↦ missed refl | End a ↦ met a tt | Remark ↦ missed refl | Other ↦ missed refl ]
+by-end x held other = by-sort (case-end x held other) (λ b. tt)
 
 pub by-remark : {A : Type 0} (x : Word) (held other : A) → Choice {B = Unit {0}} a-remark x (λ u. held) other (ifRemark x held other)
-by-remark x held other =
-    elim x [ Head ↦ missed refl | Datum k f ↦ missed refl | Piece b ↦ missed refl | Position z ↦ missed refl | Lower b ↦ missed refl | Upper b ↦ missed refl | End a ↦ missed refl | Remark ↦ met tt tt | Other ↦ missed refl ]
+by-remark x held other = by-sort (case-remark x held other) (λ b. tt)
 
 -- ---- words from a place on
 

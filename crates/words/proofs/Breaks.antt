@@ -1,22 +1,22 @@
 -- Whether a word of a sort stands at a place: what the words say against what is read there. Assumes nothing.
-use mathlib.Core.Path.{_≡_, refl, sym, ap, subst}
-use mathlib.Core.Bool.{Bool, true, false, cond, true≢false}
+use mathlib.Core.Path.{_≡_, refl, sym, ap, _∙_, subst}
+use mathlib.Core.Bool.{Bool, true, false, cond}
 use mathlib.Core.List.{List, _∷_}
 use Prim.Native.Nat.{ℕ, _+_, _<_}
 use lib.ListN.{length, getD, drop}
 use lib.Dec.{T, eqb, eqb→eq}
 use Rattle.words.specs.declared.Word.{Word}
-use Rattle.words.specs.declared.Word.the-variants.{Head, Datum, Piece, Position, Lower, Upper, End, Remark, Other}
+use Rattle.words.specs.declared.Word.the-variants.{Head, Datum, Piece, Other}
 use Rattle.words.specs.Words.{wordAt}
 use Rattle.words.specs.Cases.{ifHead, ifDatum, ifPiece}
 use Rattle.words.specs.Breaks.{Sort, a-head, a-datum, a-piece, a-position, a-lower, an-upper, an-end, a-remark, fits, IsA, Lacks}
 use Rattle.words.proofs.IsWord.{read-at}
-use Rattle.words.proofs.Cases.{there}
+use Rattle.words.proofs.Cases.{case-head, case-datum, case-piece, wanting, fitting, there}
 use Rattle.words.proofs.Front.{front-reads, front-is}
 
 -- no sort fits a word that no list and no log can hold
 never-other : (k : Sort) → T (fits k Other) → ⊥
-never-other a-head t = absurd t
+never-other (a-head allowed) t = absurd t
 never-other (a-datum n) t = absurd t
 never-other a-piece t = absurd t
 never-other a-position t = absurd t
@@ -50,20 +50,22 @@ module _ (k : Sort) (s : List ℕ) (at : ℕ) where
 
 -- ---- a word by whether it fits: what it holds, or what stands for any other
 
-pub held-head : (x : Word) → T (fits a-head x) → x ≡ Head
-held-head x = elim x [ Head ↦ (λ t. refl) | Datum k f ↦ (λ t. absurd t) | Piece b ↦ (λ t. absurd t) | Position z ↦ (λ t. absurd t) | Lower b ↦ (λ t. absurd t) | Upper b ↦ (λ t. absurd t) | End a ↦ (λ t. absurd t) | Remark ↦ (λ t. absurd t) | Other ↦ (λ t. absurd t) ]
+pub held-head : (allowed : ℕ → Bool) (x : Word) → T (fits (a-head allowed) x) → (n : ℕ) × (x ≡ Head n) × T (allowed n)
+held-head allowed x t = fitting (case-head x allowed false) t
 
-pub other-head : {A : Type 0} (x : Word) (held : A) (other : A) → fits a-head x ≡ false → ifHead x held other ≡ other
-other-head x held other = elim x [ Head ↦ (λ q. absurd (true≢false q)) | Datum k f ↦ (λ q. refl) | Piece b ↦ (λ q. refl) | Position z ↦ (λ q. refl) | Lower b ↦ (λ q. refl) | Upper b ↦ (λ q. refl) | End a ↦ (λ q. refl) | Remark ↦ (λ q. refl) | Other ↦ (λ q. refl) ]
+pub other-head : {A : Type 0} (allowed : ℕ → Bool) (x : Word) (held : ℕ → A) (other : A) → fits (a-head allowed) x ≡ false → ifHead x (λ n. cond (allowed n) (held n) other) other ≡ other
+other-head allowed x held other = wanting allowed held (case-head x _ other) (fits (a-head allowed)) (λ n. refl)
 
 pub held-piece : (x : Word) → T (fits a-piece x) → (b : ℕ) × (x ≡ Piece b)
-held-piece x = elim x [ Head ↦ (λ t. absurd t) | Datum k f ↦ (λ t. absurd t) | Piece b ↦ (λ t. (b, refl)) | Position z ↦ (λ t. absurd t) | Lower b ↦ (λ t. absurd t) | Upper b ↦ (λ t. absurd t) | End a ↦ (λ t. absurd t) | Remark ↦ (λ t. absurd t) | Other ↦ (λ t. absurd t) ]
+held-piece x t = let h = fitting (case-piece x (λ b. true) false) t in (h .0, h .1)
 
 pub other-piece : {A : Type 0} (x : Word) (held : ℕ → A) (other : A) → fits a-piece x ≡ false → ifPiece x held other ≡ other
-other-piece x held other = elim x [ Head ↦ (λ q. refl) | Datum k f ↦ (λ q. refl) | Piece b ↦ (λ q. absurd (true≢false q)) | Position z ↦ (λ q. refl) | Lower b ↦ (λ q. refl) | Upper b ↦ (λ q. refl) | End a ↦ (λ q. refl) | Remark ↦ (λ q. refl) | Other ↦ (λ q. refl) ]
+other-piece x held other = wanting (λ b. true) held (case-piece x held other) (fits a-piece) (λ b. refl)
 
 pub held-datum : (n : ℕ) (x : Word) → T (fits (a-datum n) x) → (f : ℕ) × (x ≡ Datum n f)
-held-datum n x = elim x [ Head ↦ (λ t. absurd t) | Datum k f ↦ (λ t. (f, ap (λ (i : ℕ). Datum i f) (eqb→eq k n t))) | Piece b ↦ (λ t. absurd t) | Position z ↦ (λ t. absurd t) | Lower b ↦ (λ t. absurd t) | Upper b ↦ (λ t. absurd t) | End a ↦ (λ t. absurd t) | Remark ↦ (λ t. absurd t) | Other ↦ (λ t. absurd t) ]
+held-datum n x t =
+    let h = fitting (case-datum x (λ k f. eqb k n) false) t in
+    (h .0 .1, h .1 ∙ ap (λ (i : ℕ). Datum i (h .0 .1)) (eqb→eq (h .0 .0) n (h .2)))
 
 pub other-datum : {A : Type 0} (n : ℕ) (x : Word) (held : ℕ → A) (other : A) → fits (a-datum n) x ≡ false → ifDatum x (λ k f. cond (eqb k n) (held f) other) other ≡ other
-other-datum n x held other = elim x [ Head ↦ (λ q. refl) | Datum k f ↦ (λ q. ap (λ (t : Bool). cond t (held f) other) q) | Piece b ↦ (λ q. refl) | Position z ↦ (λ q. refl) | Lower b ↦ (λ q. refl) | Upper b ↦ (λ q. refl) | End a ↦ (λ q. refl) | Remark ↦ (λ q. refl) | Other ↦ (λ q. refl) ]
+other-datum n x held other = wanting (λ (b : ℕ × ℕ). eqb (b .0) n) (λ b. held (b .1)) (case-datum x _ other) (fits (a-datum n)) (λ b. refl)

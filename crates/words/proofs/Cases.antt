@@ -1,10 +1,10 @@
--- A word that a `let .. else` leaves out gives `other`, by its tag. Assumes nothing.
-use mathlib.Core.Path.{_≡_, refl}
+-- An answer that goes by one kind of word. Assumes nothing.
+use mathlib.Core.Path.{_≡_, refl, sym, ap, _∙_, subst}
 use mathlib.Core.Bool.{Bool, true, false, cond}
 use mathlib.Core.List.{List, [], _∷_}
 use Prim.Native.Nat.{ℕ, _<_}
 use lib.ListN.{length, getD}
-use lib.Dec.{ltb}
+use lib.Dec.{T, ltb}
 use borrow.Author.Tests.{ltb-true}
 use lib.IntN.{ℤ}
 use denote.Enum.Declared.{tagOf}
@@ -15,183 +15,110 @@ use Rattle.words.specs.Cases.{ifHead, ifDatum, ifPiece, ifPosition, ifLo
 use Rattle.words.proofs.Word.{the-type}
 use Rattle.words.specs.Words.{wordOf, wordAt}
 
-pub no-head : {A : Type 0} (x : Word) → OneOf (1 ∷ 2 ∷ 3 ∷ 4 ∷ 5 ∷ 6 ∷ 7 ∷ 8 ∷ []) (tagOf the-type x) → (held : A) (other : A) → other ≡ ifHead x held other
-no-head Head h held other = absurd (miss (1 ∷ 2 ∷ 3 ∷ 4 ∷ 5 ∷ 6 ∷ 7 ∷ 8 ∷ []) 0 tt h)
-no-head (Datum k f) h held other = refl
-no-head (Piece b) h held other = refl
-no-head (Position z) h held other = refl
-no-head (Lower b) h held other = refl
-no-head (Upper b) h held other = refl
-no-head (End a) h held other = refl
-no-head Remark h held other = refl
-no-head Other h held other = refl
+-- ---- the two cases: a word of the kind, which `made` makes, gives what it holds; any other, which `is` tells apart, gives `other`
+
+pub data Case {A B : Type 0} (is : Word → Bool) (made : B → Word) (x : Word) (held : B → A) (other : A) : A → Type 0 where
+  met : (b : B) → x ≡ made b → Case is made x held other (held b)
+  missed : is x ≡ false → Case is made x held other other
+
+pub case-head : {A : Type 0} (x : Word) (held : ℕ → A) (other : A) → Case (λ y. ifHead y (λ b. true) false) Head x held other (ifHead x held other)
+case-head x held other = elim x [ Head n ↦ met n refl | Datum k f ↦ missed refl | Piece b ↦ missed refl | Position z ↦ missed refl | Lower b ↦ missed refl | Upper b ↦ missed refl | End a ↦ missed refl | Remark ↦ missed refl | Other ↦ missed refl ]
+
+pub case-datum : {A : Type 0} (x : Word) (held : ℕ → ℕ → A) (other : A) → Case {B = ℕ × ℕ} (λ y. ifDatum y (λ k f. true) false) (λ b. Datum (b .0) (b .1)) x (λ b. held (b .0) (b .1)) other (ifDatum x held other)
+case-datum x held other = elim x [ Head n ↦ missed refl | Datum k f ↦ met (k, f) refl | Piece b ↦ missed refl | Position z ↦ missed refl | Lower b ↦ missed refl | Upper b ↦ missed refl | End a ↦ missed refl | Remark ↦ missed refl | Other ↦ missed refl ]
+
+pub case-piece : {A : Type 0} (x : Word) (held : ℕ → A) (other : A) → Case (λ y. ifPiece y (λ b. true) false) Piece x held other (ifPiece x held other)
+case-piece x held other = elim x [ Head n ↦ missed refl | Datum k f ↦ missed refl | Piece b ↦ met b refl | Position z ↦ missed refl | Lower b ↦ missed refl | Upper b ↦ missed refl | End a ↦ missed refl | Remark ↦ missed refl | Other ↦ missed refl ]
+
+pub case-position : {A : Type 0} (x : Word) (held : ℤ → A) (other : A) → Case (λ y. ifPosition y (λ b. true) false) Position x held other (ifPosition x held other)
+case-position x held other = elim x [ Head n ↦ missed refl | Datum k f ↦ missed refl | Piece b ↦ missed refl | Position z ↦ met z refl | Lower b ↦ missed refl | Upper b ↦ missed refl | End a ↦ missed refl | Remark ↦ missed refl | Other ↦ missed refl ]
+
+pub case-lower : {A : Type 0} (x : Word) (held : ℕ → A) (other : A) → Case (λ y. ifLower y (λ b. true) false) Lower x held other (ifLower x held other)
+case-lower x held other = elim x [ Head n ↦ missed refl | Datum k f ↦ missed refl | Piece b ↦ missed refl | Position z ↦ missed refl | Lower b ↦ met b refl | Upper b ↦ missed refl | End a ↦ missed refl | Remark ↦ missed refl | Other ↦ missed refl ]
+
+pub case-upper : {A : Type 0} (x : Word) (held : ℕ → A) (other : A) → Case (λ y. ifUpper y (λ b. true) false) Upper x held other (ifUpper x held other)
+case-upper x held other = elim x [ Head n ↦ missed refl | Datum k f ↦ missed refl | Piece b ↦ missed refl | Position z ↦ missed refl | Lower b ↦ missed refl | Upper b ↦ met b refl | End a ↦ missed refl | Remark ↦ missed refl | Other ↦ missed refl ]
+
+pub case-end : {A : Type 0} (x : Word) (held : Bool → A) (other : A) → Case (λ y. ifEnd y (λ b. true) false) End x held other (ifEnd x held other)
+case-end x held other = elim x [ Head n ↦ missed refl | Datum k f ↦ missed refl | Piece b ↦ missed refl | Position z ↦ missed refl | Lower b ↦ missed refl | Upper b ↦ missed refl | End a ↦ met a refl | Remark ↦ missed refl | Other ↦ missed refl ]
+
+pub case-remark : {A : Type 0} (x : Word) (held : A) (other : A) → Case {B = Unit {0}} (λ y. ifRemark y true false) (λ b. Remark) x (λ b. held) other (ifRemark x held other)
+case-remark x held other = elim x [ Head n ↦ missed refl | Datum k f ↦ missed refl | Piece b ↦ missed refl | Position z ↦ missed refl | Lower b ↦ missed refl | Upper b ↦ missed refl | End a ↦ missed refl | Remark ↦ met tt refl | Other ↦ missed refl ]
+
+-- ---- what follows for every kind
+
+-- where the answer is not `other`, the word is of the kind, and what it holds gave the answer
+pub from-held : {A B : Type 0} {is : Word → Bool} {made : B → Word} {x : Word} {held : B → A} {other r : A} → Case is made x held other r → (other ≡ r → ⊥) →
+    (b : B) × (x ≡ made b) × (held b ≡ r)
+from-held (met b e) h = (b, e, refl)
+from-held (missed q) h = absurd (h refl)
+
+-- a word that a `let .. else` leaves out, by its tag
+pub left-out : {A B : Type 0} {is : Word → Bool} {made : B → Word} {x : Word} {held : B → A} {other r : A} → Case is made x held other r →
+    (tags : List ℕ) → ((b : B) → OneOf tags (tagOf the-type (made b)) → ⊥) → OneOf tags (tagOf the-type x) → other ≡ r
+left-out (met b e) tags none h = absurd (none b (subst (λ (y : Word). OneOf tags (tagOf the-type y)) e h))
+left-out (missed q) tags none h = refl
+
+-- a word that holds nothing that passes the test
+pub wanting : {A B : Type 0} {is : Word → Bool} {made : B → Word} {x : Word} {other r : A} (test : B → Bool) (held : B → A) → Case is made x (λ b. cond (test b) (held b) other) other r →
+    (fit : Word → Bool) → ((b : B) → fit (made b) ≡ test b) → fit x ≡ false → r ≡ other
+wanting {other = other} test held (met b e) fit same q = ap (λ (t : Bool). cond t (held b) other) (sym (same b) ∙ sym (ap fit e) ∙ q)
+wanting test held (missed m) fit same q = refl
+
+-- a word that holds something that does
+pub fitting : {B : Type 0} {is : Word → Bool} {made : B → Word} {x : Word} {test : B → Bool} {r : Bool} → Case is made x test false r → T r → (b : B) × (x ≡ made b) × T (test b)
+fitting (met b e) t = (b, e, t)
+fitting (missed q) t = absurd t
+
+-- ---- kind by kind
+
+pub no-head : {A : Type 0} (x : Word) → OneOf (1 ∷ 2 ∷ 3 ∷ 4 ∷ 5 ∷ 6 ∷ 7 ∷ 8 ∷ []) (tagOf the-type x) → (held : ℕ → A) (other : A) → other ≡ ifHead x held other
+no-head x h held other = left-out (case-head x held other) (1 ∷ 2 ∷ 3 ∷ 4 ∷ 5 ∷ 6 ∷ 7 ∷ 8 ∷ []) (λ b. miss (1 ∷ 2 ∷ 3 ∷ 4 ∷ 5 ∷ 6 ∷ 7 ∷ 8 ∷ []) 0 tt) h
+
+pub is-head : {A : Type 0} (x : Word) (held : ℕ → A) (other r : A) → ifHead x held other ≡ r → (other ≡ r → ⊥) → (n : ℕ) × (x ≡ Head n) × (held n ≡ r)
+is-head x held other r e apart = let h = from-held (case-head x held other) (λ y. apart (y ∙ e)) in (h .0, h .1, h .2 ∙ e)
 
 pub no-datum : {A : Type 0} (x : Word) → OneOf (0 ∷ 2 ∷ 3 ∷ 4 ∷ 5 ∷ 6 ∷ 7 ∷ 8 ∷ []) (tagOf the-type x) → (held : ℕ → ℕ → A) (other : A) → other ≡ ifDatum x held other
-no-datum Head h held other = refl
-no-datum (Datum k f) h held other = absurd (miss (0 ∷ 2 ∷ 3 ∷ 4 ∷ 5 ∷ 6 ∷ 7 ∷ 8 ∷ []) 1 tt h)
-no-datum (Piece b) h held other = refl
-no-datum (Position z) h held other = refl
-no-datum (Lower b) h held other = refl
-no-datum (Upper b) h held other = refl
-no-datum (End a) h held other = refl
-no-datum Remark h held other = refl
-no-datum Other h held other = refl
-
-pub no-piece : {A : Type 0} (x : Word) → OneOf (0 ∷ 1 ∷ 3 ∷ 4 ∷ 5 ∷ 6 ∷ 7 ∷ 8 ∷ []) (tagOf the-type x) → (held : ℕ → A) (other : A) → other ≡ ifPiece x held other
-no-piece Head h held other = refl
-no-piece (Datum k f) h held other = refl
-no-piece (Piece b) h held other = absurd (miss (0 ∷ 1 ∷ 3 ∷ 4 ∷ 5 ∷ 6 ∷ 7 ∷ 8 ∷ []) 2 tt h)
-no-piece (Position z) h held other = refl
-no-piece (Lower b) h held other = refl
-no-piece (Upper b) h held other = refl
-no-piece (End a) h held other = refl
-no-piece Remark h held other = refl
-no-piece Other h held other = refl
-
-pub no-position : {A : Type 0} (x : Word) → OneOf (0 ∷ 1 ∷ 2 ∷ 4 ∷ 5 ∷ 6 ∷ 7 ∷ 8 ∷ []) (tagOf the-type x) → (held : ℤ → A) (other : A) → other ≡ ifPosition x held other
-no-position Head h held other = refl
-no-position (Datum k f) h held other = refl
-no-position (Piece b) h held other = refl
-no-position (Position z) h held other = absurd (miss (0 ∷ 1 ∷ 2 ∷ 4 ∷ 5 ∷ 6 ∷ 7 ∷ 8 ∷ []) 3 tt h)
-no-position (Lower b) h held other = refl
-no-position (Upper b) h held other = refl
-no-position (End a) h held other = refl
-no-position Remark h held other = refl
-no-position Other h held other = refl
-
-pub no-lower : {A : Type 0} (x : Word) → OneOf (0 ∷ 1 ∷ 2 ∷ 3 ∷ 5 ∷ 6 ∷ 7 ∷ 8 ∷ []) (tagOf the-type x) → (held : ℕ → A) (other : A) → other ≡ ifLower x held other
-no-lower Head h held other = refl
-no-lower (Datum k f) h held other = refl
-no-lower (Piece b) h held other = refl
-no-lower (Position z) h held other = refl
-no-lower (Lower b) h held other = absurd (miss (0 ∷ 1 ∷ 2 ∷ 3 ∷ 5 ∷ 6 ∷ 7 ∷ 8 ∷ []) 4 tt h)
-no-lower (Upper b) h held other = refl
-no-lower (End a) h held other = refl
-no-lower Remark h held other = refl
-no-lower Other h held other = refl
-
-pub no-upper : {A : Type 0} (x : Word) → OneOf (0 ∷ 1 ∷ 2 ∷ 3 ∷ 4 ∷ 6 ∷ 7 ∷ 8 ∷ []) (tagOf the-type x) → (held : ℕ → A) (other : A) → other ≡ ifUpper x held other
-no-upper Head h held other = refl
-no-upper (Datum k f) h held other = refl
-no-upper (Piece b) h held other = refl
-no-upper (Position z) h held other = refl
-no-upper (Lower b) h held other = refl
-no-upper (Upper b) h held other = absurd (miss (0 ∷ 1 ∷ 2 ∷ 3 ∷ 4 ∷ 6 ∷ 7 ∷ 8 ∷ []) 5 tt h)
-no-upper (End a) h held other = refl
-no-upper Remark h held other = refl
-no-upper Other h held other = refl
-
-pub no-end : {A : Type 0} (x : Word) → OneOf (0 ∷ 1 ∷ 2 ∷ 3 ∷ 4 ∷ 5 ∷ 7 ∷ 8 ∷ []) (tagOf the-type x) → (held : Bool → A) (other : A) → other ≡ ifEnd x held other
-no-end Head h held other = refl
-no-end (Datum k f) h held other = refl
-no-end (Piece b) h held other = refl
-no-end (Position z) h held other = refl
-no-end (Lower b) h held other = refl
-no-end (Upper b) h held other = refl
-no-end (End a) h held other = absurd (miss (0 ∷ 1 ∷ 2 ∷ 3 ∷ 4 ∷ 5 ∷ 7 ∷ 8 ∷ []) 6 tt h)
-no-end Remark h held other = refl
-no-end Other h held other = refl
-
-pub no-remark : {A : Type 0} (x : Word) → OneOf (0 ∷ 1 ∷ 2 ∷ 3 ∷ 4 ∷ 5 ∷ 6 ∷ 8 ∷ []) (tagOf the-type x) → (held : A) (other : A) → other ≡ ifRemark x held other
-no-remark Head h held other = refl
-no-remark (Datum k f) h held other = refl
-no-remark (Piece b) h held other = refl
-no-remark (Position z) h held other = refl
-no-remark (Lower b) h held other = refl
-no-remark (Upper b) h held other = refl
-no-remark (End a) h held other = refl
-no-remark Remark h held other = absurd (miss (0 ∷ 1 ∷ 2 ∷ 3 ∷ 4 ∷ 5 ∷ 6 ∷ 8 ∷ []) 7 tt h)
-no-remark Other h held other = refl
-
--- where the answer is not `other`, the word is of that kind, and what it holds gave the answer
-
-pub is-head : {A : Type 0} (x : Word) (held : A) (other r : A) → ifHead x held other ≡ r → (other ≡ r → ⊥) → (x ≡ Head) × (held ≡ r)
-is-head Head held other r e h = (refl, e)
-is-head (Datum k f) held other r e h = absurd (h e)
-is-head (Piece b) held other r e h = absurd (h e)
-is-head (Position z) held other r e h = absurd (h e)
-is-head (Lower b) held other r e h = absurd (h e)
-is-head (Upper b) held other r e h = absurd (h e)
-is-head (End a) held other r e h = absurd (h e)
-is-head Remark held other r e h = absurd (h e)
-is-head Other held other r e h = absurd (h e)
+no-datum x h held other = left-out (case-datum x held other) (0 ∷ 2 ∷ 3 ∷ 4 ∷ 5 ∷ 6 ∷ 7 ∷ 8 ∷ []) (λ b. miss (0 ∷ 2 ∷ 3 ∷ 4 ∷ 5 ∷ 6 ∷ 7 ∷ 8 ∷ []) 1 tt) h
 
 pub is-datum : {A : Type 0} (x : Word) (held : ℕ → ℕ → A) (other r : A) → ifDatum x held other ≡ r → (other ≡ r → ⊥) → (n : ℕ) × (form : ℕ) × (x ≡ Datum n form) × (held n form ≡ r)
-is-datum Head held other r e h = absurd (h e)
-is-datum (Datum k f) held other r e h = (k, f, refl, e)
-is-datum (Piece b) held other r e h = absurd (h e)
-is-datum (Position z) held other r e h = absurd (h e)
-is-datum (Lower b) held other r e h = absurd (h e)
-is-datum (Upper b) held other r e h = absurd (h e)
-is-datum (End a) held other r e h = absurd (h e)
-is-datum Remark held other r e h = absurd (h e)
-is-datum Other held other r e h = absurd (h e)
+is-datum x held other r e apart = let h = from-held (case-datum x held other) (λ y. apart (y ∙ e)) in (h .0 .0, h .0 .1, h .1, h .2 ∙ e)
+
+pub no-piece : {A : Type 0} (x : Word) → OneOf (0 ∷ 1 ∷ 3 ∷ 4 ∷ 5 ∷ 6 ∷ 7 ∷ 8 ∷ []) (tagOf the-type x) → (held : ℕ → A) (other : A) → other ≡ ifPiece x held other
+no-piece x h held other = left-out (case-piece x held other) (0 ∷ 1 ∷ 3 ∷ 4 ∷ 5 ∷ 6 ∷ 7 ∷ 8 ∷ []) (λ b. miss (0 ∷ 1 ∷ 3 ∷ 4 ∷ 5 ∷ 6 ∷ 7 ∷ 8 ∷ []) 2 tt) h
 
 pub is-piece : {A : Type 0} (x : Word) (held : ℕ → A) (other r : A) → ifPiece x held other ≡ r → (other ≡ r → ⊥) → (b : ℕ) × (x ≡ Piece b) × (held b ≡ r)
-is-piece Head held other r e h = absurd (h e)
-is-piece (Datum k f) held other r e h = absurd (h e)
-is-piece (Piece b) held other r e h = (b, refl, e)
-is-piece (Position z) held other r e h = absurd (h e)
-is-piece (Lower b) held other r e h = absurd (h e)
-is-piece (Upper b) held other r e h = absurd (h e)
-is-piece (End a) held other r e h = absurd (h e)
-is-piece Remark held other r e h = absurd (h e)
-is-piece Other held other r e h = absurd (h e)
+is-piece x held other r e apart = let h = from-held (case-piece x held other) (λ y. apart (y ∙ e)) in (h .0, h .1, h .2 ∙ e)
+
+pub no-position : {A : Type 0} (x : Word) → OneOf (0 ∷ 1 ∷ 2 ∷ 4 ∷ 5 ∷ 6 ∷ 7 ∷ 8 ∷ []) (tagOf the-type x) → (held : ℤ → A) (other : A) → other ≡ ifPosition x held other
+no-position x h held other = left-out (case-position x held other) (0 ∷ 1 ∷ 2 ∷ 4 ∷ 5 ∷ 6 ∷ 7 ∷ 8 ∷ []) (λ b. miss (0 ∷ 1 ∷ 2 ∷ 4 ∷ 5 ∷ 6 ∷ 7 ∷ 8 ∷ []) 3 tt) h
 
 pub is-position : {A : Type 0} (x : Word) (held : ℤ → A) (other r : A) → ifPosition x held other ≡ r → (other ≡ r → ⊥) → (z : ℤ) × (x ≡ Position z) × (held z ≡ r)
-is-position Head held other r e h = absurd (h e)
-is-position (Datum k f) held other r e h = absurd (h e)
-is-position (Piece b) held other r e h = absurd (h e)
-is-position (Position z) held other r e h = (z, refl, e)
-is-position (Lower b) held other r e h = absurd (h e)
-is-position (Upper b) held other r e h = absurd (h e)
-is-position (End a) held other r e h = absurd (h e)
-is-position Remark held other r e h = absurd (h e)
-is-position Other held other r e h = absurd (h e)
+is-position x held other r e apart = let h = from-held (case-position x held other) (λ y. apart (y ∙ e)) in (h .0, h .1, h .2 ∙ e)
+
+pub no-lower : {A : Type 0} (x : Word) → OneOf (0 ∷ 1 ∷ 2 ∷ 3 ∷ 5 ∷ 6 ∷ 7 ∷ 8 ∷ []) (tagOf the-type x) → (held : ℕ → A) (other : A) → other ≡ ifLower x held other
+no-lower x h held other = left-out (case-lower x held other) (0 ∷ 1 ∷ 2 ∷ 3 ∷ 5 ∷ 6 ∷ 7 ∷ 8 ∷ []) (λ b. miss (0 ∷ 1 ∷ 2 ∷ 3 ∷ 5 ∷ 6 ∷ 7 ∷ 8 ∷ []) 4 tt) h
 
 pub is-lower : {A : Type 0} (x : Word) (held : ℕ → A) (other r : A) → ifLower x held other ≡ r → (other ≡ r → ⊥) → (b : ℕ) × (x ≡ Lower b) × (held b ≡ r)
-is-lower Head held other r e h = absurd (h e)
-is-lower (Datum k f) held other r e h = absurd (h e)
-is-lower (Piece b) held other r e h = absurd (h e)
-is-lower (Position z) held other r e h = absurd (h e)
-is-lower (Lower b) held other r e h = (b, refl, e)
-is-lower (Upper b) held other r e h = absurd (h e)
-is-lower (End a) held other r e h = absurd (h e)
-is-lower Remark held other r e h = absurd (h e)
-is-lower Other held other r e h = absurd (h e)
+is-lower x held other r e apart = let h = from-held (case-lower x held other) (λ y. apart (y ∙ e)) in (h .0, h .1, h .2 ∙ e)
+
+pub no-upper : {A : Type 0} (x : Word) → OneOf (0 ∷ 1 ∷ 2 ∷ 3 ∷ 4 ∷ 6 ∷ 7 ∷ 8 ∷ []) (tagOf the-type x) → (held : ℕ → A) (other : A) → other ≡ ifUpper x held other
+no-upper x h held other = left-out (case-upper x held other) (0 ∷ 1 ∷ 2 ∷ 3 ∷ 4 ∷ 6 ∷ 7 ∷ 8 ∷ []) (λ b. miss (0 ∷ 1 ∷ 2 ∷ 3 ∷ 4 ∷ 6 ∷ 7 ∷ 8 ∷ []) 5 tt) h
 
 pub is-upper : {A : Type 0} (x : Word) (held : ℕ → A) (other r : A) → ifUpper x held other ≡ r → (other ≡ r → ⊥) → (b : ℕ) × (x ≡ Upper b) × (held b ≡ r)
-is-upper Head held other r e h = absurd (h e)
-is-upper (Datum k f) held other r e h = absurd (h e)
-is-upper (Piece b) held other r e h = absurd (h e)
-is-upper (Position z) held other r e h = absurd (h e)
-is-upper (Lower b) held other r e h = absurd (h e)
-is-upper (Upper b) held other r e h = (b, refl, e)
-is-upper (End a) held other r e h = absurd (h e)
-is-upper Remark held other r e h = absurd (h e)
-is-upper Other held other r e h = absurd (h e)
+is-upper x held other r e apart = let h = from-held (case-upper x held other) (λ y. apart (y ∙ e)) in (h .0, h .1, h .2 ∙ e)
+
+pub no-end : {A : Type 0} (x : Word) → OneOf (0 ∷ 1 ∷ 2 ∷ 3 ∷ 4 ∷ 5 ∷ 7 ∷ 8 ∷ []) (tagOf the-type x) → (held : Bool → A) (other : A) → other ≡ ifEnd x held other
+no-end x h held other = left-out (case-end x held other) (0 ∷ 1 ∷ 2 ∷ 3 ∷ 4 ∷ 5 ∷ 7 ∷ 8 ∷ []) (λ b. miss (0 ∷ 1 ∷ 2 ∷ 3 ∷ 4 ∷ 5 ∷ 7 ∷ 8 ∷ []) 6 tt) h
 
 pub is-end : {A : Type 0} (x : Word) (held : Bool → A) (other r : A) → ifEnd x held other ≡ r → (other ≡ r → ⊥) → (a : Bool) × (x ≡ End a) × (held a ≡ r)
-is-end Head held other r e h = absurd (h e)
-is-end (Datum k f) held other r e h = absurd (h e)
-is-end (Piece b) held other r e h = absurd (h e)
-is-end (Position z) held other r e h = absurd (h e)
-is-end (Lower b) held other r e h = absurd (h e)
-is-end (Upper b) held other r e h = absurd (h e)
-is-end (End a) held other r e h = (a, refl, e)
-is-end Remark held other r e h = absurd (h e)
-is-end Other held other r e h = absurd (h e)
+is-end x held other r e apart = let h = from-held (case-end x held other) (λ y. apart (y ∙ e)) in (h .0, h .1, h .2 ∙ e)
+
+pub no-remark : {A : Type 0} (x : Word) → OneOf (0 ∷ 1 ∷ 2 ∷ 3 ∷ 4 ∷ 5 ∷ 6 ∷ 8 ∷ []) (tagOf the-type x) → (held : A) (other : A) → other ≡ ifRemark x held other
+no-remark x h held other = left-out (case-remark x held other) (0 ∷ 1 ∷ 2 ∷ 3 ∷ 4 ∷ 5 ∷ 6 ∷ 8 ∷ []) (λ b. miss (0 ∷ 1 ∷ 2 ∷ 3 ∷ 4 ∷ 5 ∷ 6 ∷ 8 ∷ []) 7 tt) h
 
 pub is-remark : {A : Type 0} (x : Word) (held : A) (other r : A) → ifRemark x held other ≡ r → (other ≡ r → ⊥) → (x ≡ Remark) × (held ≡ r)
-is-remark Head held other r e h = absurd (h e)
-is-remark (Datum k f) held other r e h = absurd (h e)
-is-remark (Piece b) held other r e h = absurd (h e)
-is-remark (Position z) held other r e h = absurd (h e)
-is-remark (Lower b) held other r e h = absurd (h e)
-is-remark (Upper b) held other r e h = absurd (h e)
-is-remark (End a) held other r e h = absurd (h e)
-is-remark Remark held other r e h = (refl, e)
-is-remark Other held other r e h = absurd (h e)
+is-remark x held other r e apart = let h = from-held (case-remark x held other) (λ y. apart (y ∙ e)) in (h .1, h .2 ∙ e)
 
 -- a word of the format stands within the words
 pub there : (s : List ℕ) (at : ℕ) → (wordAt s at ≡ Other → ⊥) → at < length s

@@ -7,11 +7,12 @@ use lib.ListN.{length, getD}
 use Prim.Native.Nat.{ℕ, _+_, _*_, _/_, _%_, _<_}
 use native.Mathlib.Nat.{div-add-mod'}
 use native.Mathlib.Omega.{arith}
-use lib.Dec.{ltb, eqb, lit<}
+use lib.Dec.{ltb, eqb}
 use borrow.Author.Tests.{ltb-true, eqb-true, lt-ltb}
+use Rattle.laws.proofs.Bools.{both}
 use Rattle.words.specs.declared.Word.{Word}
-use Rattle.words.specs.declared.Word.the-variants.{Head, Datum, Piece, Other}
-use Rattle.words.specs.Words.{datumOf, byKind, wordOf, wordAt}
+use Rattle.words.specs.declared.Word.the-variants.{Datum, Piece, Other}
+use Rattle.words.specs.Words.{datumWord, byKind, wordOf, wordAt}
 use Rattle.words.specs.IsWord.{kinded, IsWord, head, datum, piece, position, lower, upper, end, remark}
 
 -- ---- what is written is read
@@ -26,15 +27,15 @@ by-parts : (k v : ℕ) → v < 268435456 → wordOf (kinded k v) ≡ byKind k v
 unfolding wordOf
 by-parts k v h = λ i. byKind (kind-of k v h i) (value-of k v h i)
 
-datum-parts : (k f : ℕ) → k < 256 → f < 4 → datumOf (k * 65536 + f) ≡ Datum k f
-unfolding datumOf
+datum-parts : (k f : ℕ) → k < 256 → f < 4 → datumWord (k * 65536 + f) ≡ Datum k f
+unfolding datumWord
 datum-parts k f hk hf =
     let number : (k * 65536 + f) / 65536 ≡ k = omega arith in
     let form : (k * 65536 + f) % 65536 ≡ f = omega arith in
     simp (number, form) (simp (lt-ltb k 256 hk, lt-ltb f 4 hf))
 
 pub reads : {w : ℕ} {x : Word} → IsWord w x → wordOf w ≡ x
-reads head = by-parts 1 51 (lit< tt)
+reads (head {n} h) = by-parts 1 n h
 reads (datum {k} {f} hk hf) = by-parts 2 (k * 65536 + f) (omega arith) ∙ datum-parts k f hk hf
 reads (piece {b} h) = by-parts 3 b (omega arith) ∙ simp (lt-ltb b 65536 h)
 reads (position {b} h) = by-parts 4 b h
@@ -52,17 +53,10 @@ if-held : {w : ℕ} {x : Word} (t : Bool) → (t ≡ true → IsWord w x) → Kn
 if-held true f = inr (f refl)
 if-held false f = inl refl
 
-both-held : (s t : Bool) → s && t ≡ true → (s ≡ true) × (t ≡ true)
-both-held true t h = (refl, h)
-both-held false t h = let z : _≡_ {A = ℕ} 0 1 = cc in absurd (none z)
-  where
-    none : _≡_ {A = ℕ} 0 1 → ⊥
-    none z = omega arith
-
 known-kind : (k v : ℕ) → v < 268435456 → Known (kinded k v) (byKind k v)
-unfolding datumOf
+unfolding datumWord
 known-kind k v small =
-    kind 1 (if-held (eqb v 51) (λ e. subst (λ (n : ℕ). IsWord (kinded 1 n) Head) (sym (eqb-true v 51 e)) head))
+    kind 1 (inr (head small))
     (kind 2 (if-held (ltb (v / 65536) 256 && ltb (v % 65536) 4) datum-held)
     (kind 3 (if-held (ltb v 65536) (λ e. piece (ltb-true v 65536 e)))
     (kind 4 (inr (position small))
@@ -80,7 +74,7 @@ known-kind k v small =
 
     datum-held : ltb (v / 65536) 256 && ltb (v % 65536) 4 ≡ true → IsWord (kinded 2 v) (Datum (v / 65536) (v % 65536))
     datum-held e =
-        let t = both-held (ltb (v / 65536) 256) (ltb (v % 65536) 4) e in
+        let t = both (ltb (v / 65536) 256) (ltb (v % 65536) 4) e in
         subst (λ (n : ℕ). IsWord (kinded 2 n) (Datum (v / 65536) (v % 65536))) (div-add-mod' v 65536)
         (datum (ltb-true (v / 65536) 256 (t .0)) (ltb-true (v % 65536) 4 (t .1)))
 

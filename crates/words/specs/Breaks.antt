@@ -8,9 +8,9 @@ use Rattle.words.specs.declared.Word.{Word}
 use Rattle.words.specs.Cases.{ifHead, ifDatum, ifPiece, ifPosition, ifLower, ifUpper, ifEnd, ifRemark}
 use Rattle.words.specs.IsWord.{IsWord}
 
--- what a word must be: its kind, and of a datum's word the number
+-- what a word must be: its kind, of a head one of the values allowed, and of a datum's word the number
 pub data Sort : Type 0 where
-  a-head : Sort
+  a-head : (ℕ → Bool) → Sort
   a-datum : ℕ → Sort
   a-piece : Sort
   a-position : Sort
@@ -20,7 +20,7 @@ pub data Sort : Type 0 where
   a-remark : Sort
 
 abbrev pub fits : Sort → Word → Bool
-fits a-head x = ifHead x true false
+fits (a-head allowed) x = ifHead x allowed false
 fits (a-datum k) x = ifDatum x (λ n form. eqb n k) false
 fits a-piece x = ifPiece x (λ b. true) false
 fits a-position x = ifPosition x (λ p. true) false

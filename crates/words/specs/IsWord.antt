@@ -10,8 +10,8 @@ abbrev pub kinded : ℕ → ℕ → ℕ
 kinded kind value = kind * 268435456 + value
 
 pub data IsWord : ℕ → Word → Type 0 where
-  -- "Kind 1: list head, value 51"
-  head : IsWord (kinded 1 51) Head
+  -- "Kind 1: list head": which values a head may have, the list says
+  head : {n : ℕ} → n < 268435456 → IsWord (kinded 1 n) (Head n)
   -- "Kind 2: datum, number in bits 16-23, form in bits 0-1"
   datum : {k f : ℕ} → k < 256 → f < 4 → IsWord (kinded 2 (k * 65536 + f)) (Datum k f)
   -- "Kind 3: piece, 16 bits"

@@ -13,15 +13,15 @@ unfoldable pub twos : ℕ → ℕ → ℤ
 twos half b = cond (ltb b half) (pos b) (pos b -ℤ pos (2 * half))
 
 -- "Kind 2: datum, number in bits 16-23, form in bits 0-1", "unused bits 0"
-unfoldable pub datumOf : ℕ → Word
-datumOf v = cond (ltb (v / 65536) 256 && ltb (v % 65536) 4) (Datum (v / 65536) (v % 65536)) Other
+unfoldable pub datumWord : ℕ → Word
+datumWord v = cond (ltb (v / 65536) 256 && ltb (v % 65536) 4) (Datum (v / 65536) (v % 65536)) Other
 
--- "Kind 1: list head, value 51"; "Kind 3: piece, 16 bits"; "Kind 4: position, 28 bits two's complement";
+-- "Kind 1: list head", whose value is the number of data; "Kind 3: piece, 16 bits"; "Kind 4: position, 28 bits two's complement";
 -- "Kinds 5 and 6: lower and upper 16 bits of the input word"; "Kind 7: cycle end, bit 0 acknowledges"; "Kind 15: remark"
 abbrev pub byKind : ℕ → ℕ → Word
 byKind k v =
-    cond (eqb k 1) (cond (eqb v 51) Head Other)
-    (cond (eqb k 2) (datumOf v)
+    cond (eqb k 1) (Head v)
+    (cond (eqb k 2) (datumWord v)
     (cond (eqb k 3) (cond (ltb v 65536) (Piece v) Other)
     (cond (eqb k 4) (Position (twos 134217728 v))
     (cond (eqb k 5) (cond (ltb v 65536) (Lower v) Other)

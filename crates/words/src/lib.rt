@@ -1,11 +1,12 @@
 // A 32-bit word of a list or a log: its kind in the top 4 bits, and what the other 28 hold.
 ghost use mathlib.Core.Path.{_≡_};
 ghost use Prim.Native.Nat.{_<_, _≤_, _*_, _%_};
-ghost use Rattle.words.specs.Words.{twos, datumOf, wordOf, wordAt};
+ghost use Rattle.words.specs.Words.{twos, datumWord, wordOf, wordAt};
 
 // A word taken apart. Other: a word that no list and no log can hold.
 pub enum Word {
-    Head,
+    // the number that a list head holds
+    Head(u32),
     // number, form
     Datum(u8, u8),
     Piece(u16),
@@ -50,7 +51,7 @@ pub fn position_of(w: u32) -> i32
 }
 
 fn datum(value: u32) -> Word
-    ensures { λ r. ⌜ r ≡ datumOf value ⌝ }
+    ensures { λ r. ⌜ r ≡ datumWord value ⌝ }
 {
     let number = value / PIECE;
     let form = value % PIECE;
@@ -70,7 +71,7 @@ pub fn word_of(w: u32) -> Word
     let kind = w / KIND;
     let value = w % KIND;
     match kind {
-        1 => { if value == 51 { Word::Head } else { Word::Other } }
+        1 => Word::Head(value),
         2 => datum(value),
         3 => {
             if value < PIECE {

@@ -30,8 +30,8 @@ read-list-requires-2 c κs = search needs
 enum-known-other : tie.Need-enum-known-other
 enum-known-other c = search needs
 
-add-t21 : tie.Need-add-t21
-add-t21 c = omega (arith, both-used (now (c .before .before .before .before .before .before .before .before .before .before .before .before .args .words)) (c .before .before .before .before .before .before .before .before .before .before .read-list .ensures) (c .before .before .before .before .before .before .before .answer .given .1) (c .before .before .before .before .read-list2 .ensures) (c .before .other .given .1), c .before .before .before .before .before .before .before .before .before .before .before .before .good .0 .0)
+add-t19 : tie.Need-add-t19
+add-t19 c = omega (arith, both-used (now (c .before .before .before .before .before .before .before .before .before .before .before .before .args .words)) (c .before .before .before .before .before .before .before .before .before .before .read-list .ensures) (c .before .before .before .before .before .before .before .answer .given .1) (c .before .before .before .before .read-list2 .ensures) (c .before .other .given .1), c .before .before .before .before .before .before .before .before .before .before .before .before .good .0 .0)
 
 enum-known-other-2 : tie.Need-enum-known-other-2
 enum-known-other-2 c = search needs
@@ -60,7 +60,7 @@ read-kit-spec =
     part-read-list-end
     read-list-requires-2
     enum-known-other
-    add-t21
+    add-t19
     enum-known-other-2
     enum-known-answer-2
     returns

@@ -1,6 +1,7 @@
 -- `list_vectors::put_changed` meets its contract. Assumes nothing.
 use Prim.Native.Nat.{_-_}
 use borrow.Author.Needs.{needs}
+use Rattle.machine_data.specs.Table.{dataCount}
 use Rattle.list_vectors.proofs.put_changed.Statement.{statement}
 use Rattle.list_vectors.proofs.put_changed.Tie as tie
 
@@ -8,7 +9,7 @@ abbrev Inv-loop : tie.InvT-loop
 Inv-loop base list k₀ k = Unit {0}
 
 abbrev μ-loop : tie.MeasureT-loop
-μ-loop base list k₀ k = 51 - k
+μ-loop base list k₀ k = dataCount - k
 
 loop-holds : tie.Need-loop-holds Inv-loop μ-loop
 loop-holds c = search needs

@@ -1,10 +1,10 @@
--- `list::step_at` meets its contract. Assumes nothing.
+-- `datum::value_at` meets its contract. Assumes nothing.
 use mathlib.Core.Path.{sym, _∙_}
 use denote.Ref.{now}
-use Rattle.list.proofs.Steps.{step-bad, by-units, by-range}
+use Rattle.datum.proofs.Forms.{value-bad, by-units, by-range}
 use borrow.Author.Needs.{needs}
-use Rattle.list.proofs.step_at.Statement.{statement}
-use Rattle.list.proofs.step_at.Tie as tie
+use Rattle.datum.proofs.value_at.Statement.{statement}
+use Rattle.datum.proofs.value_at.Tie as tie
 
 datum-at-requires : tie.Need-datum-at-requires
 datum-at-requires c κs = search needs
@@ -21,8 +21,8 @@ enum-known-z c = search needs
 in-range-requires : tie.Need-in-range-requires
 in-range-requires c κs = search needs
 
-enum-known-n : tie.Need-enum-known-n
-enum-known-n c = search needs
+enum-known-why : tie.Need-enum-known-why
+enum-known-why c = search needs
 
 enum-known-place : tie.Need-enum-known-place
 enum-known-place c = search needs
@@ -37,14 +37,14 @@ returns-2 c = let s = c .before .before .before .before .before .before .before 
 
 returns-3 : tie.Need-returns-3
 returns-3 c = let s = c .before .before .before .before .before .before .before .before .before in
-    by-units (now (s .args .words)) (s .args .k) (s .args .at) (sym (c .before .before .before .before .before .before .before .datum-at .ensures) ∙ c .before .before .before .before .before .d .given .1) (sym (c .before .before .before .resolve .ensures) ∙ c .before .n .given .1)
+    by-units (now (s .args .words)) (s .args .k) (s .args .at) (sym (c .before .before .before .before .before .before .before .datum-at .ensures) ∙ c .before .before .before .before .before .d .given .1) (sym (c .before .before .before .resolve .ensures) ∙ c .before .why .given .1)
 
 returns-4 : tie.Need-returns-4
 returns-4 c = let s = c .before .before .before .before .before in
-    step-bad (now (s .args .words)) (s .args .k) (s .args .at) (sym (c .before .before .before .datum-at .ensures) ∙ c .before .place .given .1)
+    value-bad (now (s .args .words)) (s .args .k) (s .args .at) (sym (c .before .before .before .datum-at .ensures) ∙ c .before .place .given .1)
 
-pub step-at-spec : {M : Type 1} → statement M
-step-at-spec =
+pub value-at-spec : {M : Type 1} → statement M
+value-at-spec =
     tie.close
     (tie.spec
     datum-at-requires
@@ -52,7 +52,7 @@ step-at-spec =
     resolve-requires
     enum-known-z
     in-range-requires
-    enum-known-n
+    enum-known-why
     enum-known-place
     returns
     returns-2

@@ -1,20 +1,20 @@
--- What a kit is, with nothing said of how it is read: document 01, "The words behind list A are handed on as list B".
+-- What the two lists of a kit are, with nothing said of how they are read: document 01, "The words behind list A are handed on as list B".
 use Prim.Native.Nat.{ℕ, _+_, _≤_}
 use mathlib.Core.Path.{_≡_}
 use mathlib.Core.List.{List}
 use lib.ListN.{length, take, drop}
-use lib.IntN.{ℤ}
+use Rattle.machine_data.specs.declared.MachineData.{MachineData}
 use Rattle.list.specs.IsList.{IsList}
 use Rattle.kit.specs.declared.KitRead.{KitRead}
 use Rattle.kit.specs.declared.KitAnswer.the-variants.{Accepted}
 
 -- a list of n words at the front, another of m words right behind it, and the log from there on
-pub record IsKit (s : List ℕ) (a b : List ℤ) (log : ℕ) : Type 0 where
+pub record AreLists (s : List ℕ) (a b : MachineData) (log : ℕ) : Type 0 where
   pub n : ℕ
   pub m : ℕ
   pub list-a : (n ≤ length s) × IsList a (take n s)
   pub list-b : (m ≤ length (drop n s)) × IsList b (take m (drop n s))
   pub behind : log ≡ n + m
 
-abbrev pub acceptance : List ℤ → List ℤ → ℕ → KitRead
-acceptance a b log = record { answer = Accepted log; a = record { values = a; count = 51 }; b = record { values = b; count = 51 } }
+abbrev pub acceptedKit : MachineData → MachineData → ℕ → KitRead
+acceptedKit a b log = record { answer = Accepted log; a = a; b = b }

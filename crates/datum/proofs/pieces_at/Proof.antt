@@ -1,14 +1,14 @@
--- `list::pieces_at` meets its contract. Assumes nothing.
+-- `datum::pieces_at` meets its contract. Assumes nothing.
 use mathlib.Core.Path.{_≡_, refl, sym, _∙_}
 use Prim.Native.Nat.{_-_, _*_, _^_, _≤_, _<_}
 use native.Mathlib.Omega.{arith}
 use denote.Ref.{now}
 use lib.Pow.{pow-pos}
 use borrow.Author.Needs.{needs}
-use Rattle.list.specs.Datum.{piecesAt}
-use Rattle.list.proofs.Joined.{piece-there, one-more, bad-here, none-left, small, grown}
-use Rattle.list.proofs.pieces_at.Statement.{statement}
-use Rattle.list.proofs.pieces_at.Tie as tie
+use Rattle.datum.specs.Datum.{piecesAt}
+use Rattle.datum.proofs.Joined.{piece-there, one-more, bad-here, none-left, small, grown}
+use Rattle.datum.proofs.pieces_at.Statement.{statement}
+use Rattle.datum.proofs.pieces_at.Tie as tie
 
 abbrev Inv-loop : tie.InvT-loop
 Inv-loop words at n bits₀ next₀ left₀ bits next left =

@@ -8,6 +8,7 @@ use lib.ListN.{length}
 use lib.Pow.{pow-add, pow-mono}
 use denote.Enum.Declared.{tagOf}
 use types.Run.{OneOf}
+use Rattle.laws.proofs.Never.{never}
 use Rattle.words.specs.declared.Word.{Word}
 use Rattle.words.specs.declared.Word.the-variants.{Piece}
 use Rattle.words.specs.Words.{wordAt}
@@ -15,11 +16,11 @@ use Rattle.words.specs.Cases.{ifPiece}
 use Rattle.words.proofs.Word.{the-type}
 use Rattle.words.proofs.Cases.{no-piece, is-piece, there}
 use Rattle.words.proofs.IsWord.{read-at, piece-small}
-use Rattle.list.specs.Datum.{piecesAt}
-use Rattle.list.specs.declared.Pieces as P
+use Rattle.datum.specs.Datum.{piecesAt}
+use Rattle.datum.specs.declared.Pieces as P
 
 pub piece-there : (s : List ℕ) (at : ℕ) {b : ℕ} → wordAt s at ≡ Piece b → at < length s
-piece-there s at h = there s at (λ e. let z : _≡_ {A = ℕ} 0 1 = cc in omega arith)
+piece-there s at h = there s at (λ e. never (cc))
 
 module _ (s : List ℕ) (at bits : ℕ) where
   pub one-more : (n : ℕ) {b : ℕ} → 0 < n → wordAt s at ≡ Piece b → piecesAt s at n bits ≡ piecesAt s (at + 1) (n - 1) (bits * 65536 + b)
@@ -58,7 +59,7 @@ pub first-piece : (s : List ℕ) (at n bits b : ℕ) → piecesAt s at (suc n) b
 unfolding piecesAt
 first-piece s at n bits b e =
     is-piece (wordAt s at) (λ p. piecesAt s (at + 1) n (bits * 65536 + p)) (P.the-variants.Bad at) (P.the-variants.Bits b) e
-    (λ h. let z : _≡_ {A = ℕ} 0 1 = cc in omega arith)
+    (λ h. never (cc))
 
 pub within : (s : List ℕ) (at n bits b : ℕ) → piecesAt s at n bits ≡ P.the-variants.Bits b → at + n ≤ max at (length s)
 within s at zero bits b e = omega arith
@@ -73,7 +74,7 @@ unfolding piecesAt
 joined-small s at zero bits b e = let q : bits ≡ b = cc in omega arith
 joined-small s at (suc n) bits b e =
     let p = first-piece s at n bits b e in
-    let h : p .0 < 65536 = piece-small (read-at s at (p .1) (λ x. let z : _≡_ {A = ℕ} 0 1 = cc in omega arith)) in
+    let h : p .0 < 65536 = piece-small (read-at s at (p .1) (λ x. never (cc))) in
     lt-of-lt-of-le (joined-small s (at + 1) n (bits * 65536 + p .0) b (p .2)) (up (p .0) h)
   where
     up : (p : ℕ) → p < 65536 → suc (bits * 65536 + p) * 2 ^ (16 * n) ≤ suc bits * 2 ^ (16 * suc n)

@@ -1,0 +1,129 @@
+-- A datum by what was read of its words, its units by what it is, and its value by both. Assumes nothing.
+use mathlib.Core.Path.{_≡_, refl, sym, ap, _∙_, subst}
+use mathlib.Core.List.{List, [], _∷_}
+use mathlib.Core.Bool.{Bool, cond}
+use Prim.Native.Nat.{ℕ, zero, suc, _+_, _*_, _^_, _≤_, _<_}
+use native.Mathlib.Omega.{arith}
+use lib.ListN.{length}
+use lib.IntN.{ℤ}
+use lib.Dec.{eqb}
+use lib.Ieee.{Float}
+use denote.Enum.Declared.{tagOf}
+use types.Run.{OneOf}
+use borrow.Author.Tests.{eq-eqb, ne-eqb}
+use Rattle.refusal.specs.declared.Refusal.the-variants.{WrongWord, OpenDatum, OutOfRange}
+use Rattle.laws.proofs.Never.{never}
+use Rattle.words.specs.declared.Word.{Word}
+use Rattle.words.specs.declared.Word.the-variants as W
+use Rattle.words.specs.Words.{wordAt}
+use Rattle.words.specs.Cases.{ifDatum}
+use Rattle.words.proofs.Word.{the-type}
+use Rattle.words.proofs.Cases.{no-datum, there}
+use Rattle.whole.specs.declared.Whole as H
+use Rattle.whole.specs.Whole.{wholeOf}
+use Rattle.machine_data.specs.Table.{inRange}
+use Rattle.datum.specs.declared.Datum as D
+use Rattle.datum.specs.declared.Pieces as P
+use Rattle.datum.specs.declared.DatumRead as R
+use Rattle.datum.specs.declared.Units as U
+use Rattle.datum.specs.declared.DatumAnswer as A
+use Rattle.datum.specs.Datum.{piecesAt, formPieces, inForm, onPieces, formAt, datumAt, ofWhole, unitsOf, ofUnits, ofRead, valueAt}
+use Rattle.datum.proofs.Joined.{joined-small}
+
+pub few-pieces : (f : ℕ) → formPieces f ≤ 4
+few-pieces zero = omega arith
+few-pieces (suc zero) = omega arith
+few-pieces (suc (suc zero)) = omega arith
+few-pieces (suc (suc (suc f))) = omega arith
+
+-- a form past 2 is open
+pub open-form : (f : ℕ) → (f ≡ 0 → ⊥) → (f ≡ 1 → ⊥) → (f ≡ 2 → ⊥) → (0 ≡ formPieces f) × ((b : ℕ) → D.the-variants.Open ≡ inForm f b)
+open-form zero a b c = absurd (a refl)
+open-form (suc zero) a b c = absurd (b refl)
+open-form (suc (suc zero)) a b c = absurd (c refl)
+open-form (suc (suc (suc f))) a b c = (refl, λ b. refl)
+
+-- what a form's pieces hold fits its bits
+pub bits-fit : (f : ℕ) (s : List ℕ) (at : ℕ) {n b : ℕ} → n ≡ formPieces f → piecesAt s at n 0 ≡ P.the-variants.Bits b → b < 2 ^ (16 * formPieces f)
+bits-fit f s at {n} {b} e h = subst (λ (m : ℕ). b < 2 ^ (16 * m)) e (go (2 ^ (16 * n)) (joined-small s at n 0 b h))
+  where
+    go : (m : ℕ) → b < 1 * m → b < m
+    go m l = omega arith
+
+-- a form of two pieces fits 32 bits
+pub in-32 : (f : ℕ) {b : ℕ} → f ≤ 1 → b < 2 ^ (16 * formPieces f) → b < 4294967296
+in-32 zero h l = l
+in-32 (suc zero) h l = l
+in-32 (suc (suc f)) h l = absurd (omega (arith, h))
+
+pub form-is : (f : ℕ) (s : List ℕ) (at : ℕ) {x : P.Pieces} → piecesAt s at (formPieces f) 0 ≡ x → onPieces x (inForm f) (at + formPieces f) ≡ formAt f s at
+unfolding formAt
+form-is f s at e = sym (ap (λ (x : P.Pieces). onPieces x (inForm f) (at + formPieces f)) e)
+
+pub datum-there : (s : List ℕ) (at : ℕ) {n form : ℕ} → wordAt s at ≡ W.Datum n form → at < length s
+datum-there s at h = there s at (λ e. never (cc))
+
+-- ---- datum k
+
+module _ (s : List ℕ) (k at : ℕ) where
+  by-number : ℕ → ℕ → R.DatumRead
+  by-number n form = cond (eqb n k) (formAt form s (at + 1)) (R.the-variants.Bad at)
+
+  pub no-datum-word : {x : Word} → x ≡ wordAt s at → OneOf (0 ∷ 2 ∷ 3 ∷ 4 ∷ 5 ∷ 6 ∷ 7 ∷ 8 ∷ []) (tagOf the-type x) → R.the-variants.Bad at ≡ datumAt s k at
+  unfolding datumAt by-number
+  no-datum-word {x} e h = no-datum x h by-number (R.the-variants.Bad at) ∙ ap (λ (y : Word). ifDatum y by-number (R.the-variants.Bad at)) e
+
+  module _ {n form : ℕ} (word : wordAt s at ≡ W.Datum n form) where
+    pub other-number : (n ≡ k → ⊥) → R.the-variants.Bad at ≡ datumAt s k at
+    unfolding datumAt by-number
+    other-number h = sym (ap (λ (y : Word). ifDatum y by-number (R.the-variants.Bad at)) word ∙ simp (ne-eqb n k h))
+
+    pub of-form : n ≡ k → formAt form s (at + 1) ≡ datumAt s k at
+    unfolding datumAt by-number
+    of-form h = sym (ap (λ (y : Word). ifDatum y by-number (R.the-variants.Bad at)) word ∙ simp (eq-eqb n k h))
+
+    -- and so by what its pieces gave
+    pub of-pieces : n ≡ k → {m : ℕ} → m ≡ formPieces form → {x : P.Pieces} → piecesAt s (at + 1) m 0 ≡ x → onPieces x (inForm form) (at + 1 + m) ≡ datumAt s k at
+    of-pieces h {m} e {x} p =
+        ap (λ (i : ℕ). onPieces x (inForm form) (at + 1 + i)) e
+        ∙ form-is form s (at + 1) (ap (λ (i : ℕ). piecesAt s (at + 1) i 0) (sym e) ∙ p)
+        ∙ of-form h
+
+-- ---- the units of a datum
+
+module _ {d : D.Datum} (at : ℕ) where
+  pub units-whole : {z : ℤ} → d ≡ D.the-variants.Whole z → {y : ℤ} → y ≡ z → U.the-variants.Are y ≡ unitsOf d at
+  unfolding unitsOf
+  units-whole h e = ap U.the-variants.Are e ∙ sym (ap (λ (x : D.Datum). unitsOf x at) h)
+
+  pub units-single : {x : Float} → d ≡ D.the-variants.Single x → {v : H.Whole} → wholeOf x ≡ v → ofWhole at v ≡ unitsOf d at
+  unfolding unitsOf
+  units-single h e = sym (ap (λ (x : D.Datum). unitsOf x at) h ∙ ap (ofWhole at) e)
+
+  pub units-double : {x : Float} → d ≡ D.the-variants.Double x → {v : H.Whole} → wholeOf x ≡ v → ofWhole at v ≡ unitsOf d at
+  unfolding unitsOf
+  units-double h e = sym (ap (λ (x : D.Datum). unitsOf x at) h ∙ ap (ofWhole at) e)
+
+  pub units-open : d ≡ D.the-variants.Open → U.the-variants.Refused (OpenDatum at) ≡ unitsOf d at
+  unfolding unitsOf
+  units-open h = sym (ap (λ (x : D.Datum). unitsOf x at) h)
+
+-- ---- the value of datum k
+
+module _ (s : List ℕ) (k at : ℕ) where
+  pub value-bad : {place : ℕ} → datumAt s k at ≡ R.the-variants.Bad place → A.the-variants.Refused (WrongWord place) ≡ valueAt s k at
+  unfolding valueAt
+  value-bad h = sym (ap (ofRead k at) h)
+
+  module _ {d : D.Datum} {next : ℕ} (read : datumAt s k at ≡ R.the-variants.Datum d next) where
+    pub by-units : {u : U.Units} → unitsOf d at ≡ u → ofUnits k at next u ≡ valueAt s k at
+    unfolding valueAt
+    by-units e = sym (ap (ofRead k at) read ∙ ap (ofUnits k at next) e)
+
+    -- y is z as the machine has it
+    pub by-range : {z y : ℤ} → unitsOf d at ≡ U.the-variants.Are z → y ≡ z → {t : Bool} → inRange k y ≡ t →
+        cond t (A.the-variants.Value y next) (A.the-variants.Refused (OutOfRange at)) ≡ valueAt s k at
+    by-range {z} e same r =
+        (λ i. cond (sym r i) (A.the-variants.Value (same i) next) (A.the-variants.Refused (OutOfRange at)))
+        ∙ ap (λ (v : ℤ). cond (inRange k v) (A.the-variants.Value z next) (A.the-variants.Refused (OutOfRange at))) same
+        ∙ by-units e

@@ -1,1 +1,3 @@
 pub mod Selection
+pub mod Order
+pub mod Chosen

@@ -1,5 +1,5 @@
 -- The stop state and step 5 of a cycle: document 01, "One cycle of a channel".
-use Prim.Native.Nat.{ℕ, _-_, _≤_}
+use Prim.Native.Nat.{ℕ, _-_}
 use mathlib.Core.Bool.{Bool, not, cond, _&&_, _||_}
 use mathlib.Core.List.{List}
 use lib.IntN.{ℤ}
@@ -70,38 +70,6 @@ stopNext d clears strongest slow position s =
     cond clears Free
     (settledOf slow position (cond (outranks strongest s) (enteredOf d strongest) (countedOf s)))
 
--- ---- what the laws of step 5 speak of
-
--- the stops that a cycle leaves: E to B brake, with a count from 1 to their time, and E to C are held
-pub data WellFormed (d : List ℤ) : Stop → Type 0 where
-  free : WellFormed d Free
-  braking : {r : Rank} {n : ℕ} → 1 ≤ rankNumber r → rankNumber r ≤ 4 → 1 ≤ n → n ≤ timeOf d r → WellFormed d (Braking r n)
-  held : {r : Rank} {p : ℤ} → 1 ≤ rankNumber r → rankNumber r ≤ 3 → WellFormed d (Held r p)
-  cancelled : WellFormed d Cancelled
-
 -- a stop is entered: a cause outranks the standing one and no acknowledgement clears it
 abbrev pub entersOf : Bool → Rank → Stop → Bool
 entersOf clears strongest s = not clears && outranks strongest s
-
--- the cycles left; a stop that does not brake has none
-abbrev pub stopCount : Stop → ℕ
-stopCount Free = 0
-stopCount (Braking r n) = n
-stopCount (Held r p) = 0
-stopCount Cancelled = 0
-
--- a rank's number with n cycles left: 4 is 5 where B becomes A
-abbrev pub levelAt : Bool → ℕ → ℕ → ℕ
-levelAt slow level n = cond (eqb level 4 && endsOf slow n) 5 level
-
--- the number of the rank after a cycle: 0 if it clears; if a stop is entered, its cause's; else as it was; and 5 where B becomes A
-unfoldable pub rankAfter : List ℤ → Bool → Rank → Bool → Stop → ℕ
-rankAfter d clears strongest slow s =
-    cond clears 0
-    (cond (entersOf clears strongest s)
-    (levelAt slow (rankNumber strongest) (timeOf d strongest))
-    (levelAt slow (levelOf s) (stopCount s - 1)))
-
--- the standing B becomes A
-abbrev pub becomesA : Bool → Bool → Stop → Bool
-becomesA clears slow s = not clears && eqb (levelOf s) 4 && endsOf slow (stopCount s - 1)

@@ -1,0 +1,4 @@
+pub mod Stops
+pub mod Rows
+pub mod Cycles
+pub mod Demand2

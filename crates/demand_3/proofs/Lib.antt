@@ -1,0 +1,17 @@
+pub mod OverTime
+pub mod OfStop
+pub mod OfCauses
+pub mod OfComparison
+pub mod OfDevice
+pub mod OfSelection
+pub mod OfWord
+pub mod OfLog
+pub mod Stops
+pub mod Cycles
+pub mod Turns
+pub mod Selections
+pub mod Traces
+pub mod Logs
+pub mod Calls
+pub mod Answered
+pub mod Demand3

@@ -1,0 +1,143 @@
+-- The claims of demand 3 over numbered cycles: document 01, "The runs of demand 3". They speak of three functions of a cycle's number, from 0: `L n` is the
+-- list in force in cycle n, `S n` the state that the cycle finds, and `G n` what it is given. Ranks, causes and data of a cycle go by its own list.
+use Prim.Native.Nat.{ℕ, zero, suc, _+_, _≤_, _<_}
+use mathlib.Core.Bool.{Bool, false, not, cond, _||_}
+use mathlib.Core.List.{List, [], _∷_}
+use mathlib.Core.Logic.{_⊎_}
+use mathlib.Core.Path.{_≡_}
+use lib.Dec.{T, eqb}
+use lib.ListN.{getD, take}
+use Rattle.bits.specs.Bits.{bitOf, fieldOf}
+use Rattle.machine_data.specs.declared.MachineData.{MachineData}
+use Rattle.machine_data.specs.Data.{numberOf}
+use Rattle.inputs.specs.Usable.{usableOf}
+use Rattle.selection.specs.declared.Selection.{Selection}
+use Rattle.selection.specs.declared.Selection.the-variants.{Nothing, Sg, Sbh}
+use Rattle.selection.specs.Selection.{selectedOf, stricter}
+use Rattle.rank.specs.declared.Rank.{Rank}
+use Rattle.rank.specs.declared.Rank.the-variants.{None}
+use Rattle.rank.specs.Rank.{rankNumber, timeOf}
+use Rattle.causes.specs.declared.Cause.{Cause}
+use Rattle.causes.specs.Causes.{cause}
+use Rattle.state.specs.declared.State.{State}
+use Rattle.state.specs.declared.Given.{Given}
+use Rattle.judge.specs.Causes.{rowsOf}
+use Rattle.channel.specs.Cycle.{clearsIn, enteredIn, next}
+use Rattle.channel_word.specs.Word.{isEffective}
+use Rattle.device.specs.Device.{wordRank}
+
+-- "A limit in force is overstepped where cause 2, 3 or 4 stands"
+abbrev pub isLimit : ℕ → Bool
+isLimit x = eqb x 2 || eqb x 3 || eqb x 4
+
+-- cause x in the table of a cycle; one that does not stand where the table has none
+unfoldable pub causeOf : ℕ → List Cause → Cause
+causeOf x [] = cause x false None
+causeOf x (c ∷ cs) = cond (eqb (c .code) x) c (causeOf x cs)
+
+-- "X or something stricter", by the limits of a list
+abbrev pub AtLeast : MachineData → Selection → Selection → Type 0
+AtLeast m x s = (s ≡ x) ⊎ T (stricter (m .values) s x)
+
+-- the same by the order alone: X is not stricter than s
+abbrev pub NoLaxer : MachineData → Selection → Selection → Type 0
+NoLaxer m x s = T (not (stricter (m .values) x s))
+
+-- "19-20 effective SG less one, else 0"
+abbrev pub sgLessOne : Selection → ℕ
+sgLessOne Nothing = 0
+sgLessOne (Sg n o) = n
+sgLessOne Sbh = 0
+
+-- the ranks in the words: bits 24-26 of a channel word, where its layout has the rank, and bits 1-3 of a device word. The device reads a channel word's
+-- rank with bit 2 besides (`wordRank`); of the words that the calls give both are one, as the claim `one-rank` says, so each claim holds by either.
+abbrev pub rankInWord : ℕ → ℕ
+rankInWord w = fieldOf w 24 8
+
+abbrev pub rankInDevice : ℕ → ℕ
+rankInDevice w = fieldOf w 1 8
+
+-- "all"
+abbrev pub All : {X : Type 0} → (X → Type 0) → List X → Type 0
+All P [] = Unit {0}
+All P (x ∷ xs) = P x × All P xs
+
+module _ (L : ℕ → MachineData) (G : ℕ → Given) where
+  -- what cycle n selects
+  abbrev pub selectedIn : ℕ → Selection
+  selectedIn n = selectedOf (L n .values) (G n .reading .inputs)
+
+  -- the usable cycles before cycle n, the latest first
+  unfoldable pub usableBefore : ℕ → List ℕ
+  usableBefore zero = []
+  usableBefore (suc n) = cond (usableOf (L n) (G n .reading)) (n ∷ usableBefore n) (usableBefore n)
+
+  -- "a usable cycle and the last usable ones before it": w of these
+  abbrev pub window : ℕ → ℕ → List ℕ
+  window n w = take (suc w) (usableBefore (suc n))
+
+  -- "as many as datum 27 says", by the list in force in the first of them
+  abbrev pub Waited : ℕ → ℕ → Type 0
+  Waited n w = numberOf (L (getD (usableBefore (suc n)) w 0) .values) 27 ≤ w
+
+module _ (L : ℕ → MachineData) (S : ℕ → State) (G : ℕ → Given) where
+  -- the state that cycle n leaves
+  abbrev pub left : ℕ → State
+  left n = next (L n) (S n) (G n)
+
+  -- cause x in cycle n, and that it stands there
+  abbrev pub causeIn : ℕ → ℕ → Cause
+  causeIn n x = causeOf x (rowsOf (L n) (S n) (G n))
+
+  abbrev pub Stands : ℕ → ℕ → Type 0
+  Stands n x = T (causeIn n x .stands)
+
+  -- "A cycle clears if it is acknowledged and has no fresh cause"
+  abbrev pub Clears : ℕ → Type 0
+  Clears n = T (clearsIn (L n) (S n) (G n))
+
+  -- "Until one after cycle n clears": none after n and up to m does
+  abbrev pub Uncleared : ℕ → ℕ → Type 0
+  Uncleared n m = (i : ℕ) → n < i → i ≤ m → Clears i → ⊥
+
+  -- the rank entered in cycle n
+  abbrev pub entered : ℕ → Rank
+  entered n = enteredIn (L n) (S n) (G n)
+
+  -- the selection that is effective in cycle n
+  abbrev pub effective : ℕ → Selection
+  effective n = left n .kept .choice .effective
+
+  -- `size` cycles, and the words given in each
+  pub record Claims (size : ℕ) (channel device : ℕ → ℕ) : Type 0 where
+    -- "A limit in force is overstepped where cause 2, 3 or 4 stands; the device rank is then at least that cause's rank"
+    pub overstepped : (n x : ℕ) → n < size → T (isLimit x) → Stands n x → rankNumber (causeIn n x .rank) ≤ rankInDevice (device n)
+    -- "if C, D or E with time t is entered in n, the channel word has that rank and bit 27, or a greater rank, from n + t on"
+    pub held-in-time : (n m : ℕ) (r : Rank) → m < size → 1 ≤ rankNumber r → rankNumber r ≤ 3 → entered n ≡ r → n + timeOf (L n .values) r ≤ m →
+        Uncleared n m → ((rankInWord (channel m) ≡ rankNumber r) × T (bitOf (channel m) 27)) ⊎ (rankNumber r < rankInWord (channel m))
+    -- "If cause 1 stands in n, the device rank is 5 from n on"
+    pub unusable-off : (n m : ℕ) → m < size → Stands n 1 → n ≤ m → Uncleared n m → rankInDevice (device m) ≡ 5
+    -- "If cause 9 stands in n, the device rank is 4 or 5 in n"
+    pub moved-at-once : (n : ℕ) → n < size → Stands n 9 → (rankInDevice (device n) ≡ 4) ⊎ (rankInDevice (device n) ≡ 5)
+    -- "and 5 from n + datum 32 on"
+    pub moved-off : (n m : ℕ) → m < size → Stands n 9 → n + numberOf (L n .values) 32 ≤ m → Uncleared n m → rankInDevice (device m) ≡ 5
+    -- "If cause 10 stands in n, the device rank is 5 from n + datum 34 + datum 32 on": the time of F by the list in force in n, and that of B by the one in
+    -- force where it begins
+    pub differing-off : (n m : ℕ) → m < size → Stands n 10 →
+        n + numberOf (L n .values) 34 + numberOf (L (n + numberOf (L n .values) 34) .values) 32 ≤ m → Uncleared n m → rankInDevice (device m) ≡ 5
+    -- "Where a usable cycle and the last usable ones before it, as many as datum 27 says, all select X or something stricter, the effective selection in it is
+    -- X or stricter", by the limits of any list, the one in force among them
+    pub binds : (n w : ℕ) → n < size → T (usableOf (L n) (G n .reading)) → Waited L G n w → (m : MachineData) (x : Selection) →
+        All (λ i. AtLeast m x (selectedIn L G i)) (window L G n w) → AtLeast m x (effective n)
+    pub binds-by-order : (n w : ℕ) → n < size → T (usableOf (L n) (G n .reading)) → Waited L G n w → (m : MachineData) (x : Selection) →
+        All (λ i. NoLaxer m x (selectedIn L G i)) (window L G n w) → NoLaxer m x (effective n)
+    -- "bits 0 and 19-20 of the channel word are those of the effective selection"
+    pub shown : (n : ℕ) → n < size → (bitOf (channel n) 0 ≡ isEffective (effective n)) × (fieldOf (channel n) 19 4 ≡ sgLessOne (effective n))
+    -- "The device rank is never below the channel word's"
+    pub not-weaker : (n : ℕ) → n < size → rankInWord (channel n) ≤ rankInDevice (device n)
+    -- "which is lower than in the cycle before only in a cycle that clears"
+    pub falls-cleared : (n : ℕ) → suc n < size → rankInWord (channel (suc n)) < rankInWord (channel n) → Clears (suc n)
+    -- "Where the device rank is 5, bit 0 of the device word is 0"
+    pub pulses-off : (n : ℕ) → n < size → rankInDevice (device n) ≡ 5 → bitOf (device n) 0 ≡ false
+    -- "a word's rank is 5 if bit 2 is set or bits 24-26 exceed 5"
+    pub one-rank : (n : ℕ) → n < size → wordRank (channel n) ≡ rankInWord (channel n)

@@ -1,0 +1,57 @@
+-- Demand 3, in the client's words (document 01, "The runs of demand 3"):
+--
+--   "The working channel starts fresh, with an accepted list. The calls are a single cycle, then the device word of its channel word
+--   and the other's (position, input word, acknowledgement; the report and the other channel's word are anything at all) and a log,
+--   accepted, empty or refused, with the working channel as A or B beside any other channel. Each call gets the working channel as
+--   the last one returned or left it; nobody else writes it meanwhile. Cycles, those of accepted logs too, count through the whole
+--   list. Demand 3 is a single claim about the list, not one for each call.
+--
+--   Cause, fresh, effective, entered, held and reference are what steps 1 to 5 make of the machine data and the calls' cycles and
+--   reports, never read from the returned working channel. [..] What is claimed of ranks and of a word's bits is read from the channel
+--   words and device words that the calls give [..]. Where the device rank is 5, bit 0 of the device word is 0.
+--
+--   - A limit in force is overstepped where cause 2, 3 or 4 stands; the device rank is then at least that cause's rank.
+--   - A cycle clears if it is acknowledged and has no fresh cause. Until one after cycle n clears: if C, D or E with time t is entered
+--     in n, the channel word has that rank and bit 27, or a greater rank, from n + t on. If cause 1 stands in n, the device rank is 5
+--     from n on. If cause 9 stands in n, the device rank is 4 or 5 in n, and 5 from n + datum 32 on. If cause 10 stands in n, the
+--     device rank is 5 from n + datum 34 + datum 32 on.
+--   - Where a usable cycle and the last usable ones before it, as many as datum 27 says, all select X or something stricter, the
+--     effective selection in it is X or stricter, and bits 0 and 19-20 of the channel word are those of the effective selection.
+--   - The device rank is never below the channel word's, which is lower than in the cycle before only in a cycle that clears."
+--
+-- How to read these files. This one ends with `Demand3`, the theorem's statement, proved in proofs/Demand3.antt. It speaks of every list of words that the
+-- list reader accepts, of every list of calls, and of all words that these calls may give on the fresh channel: what a call answers is no more than its
+-- function's contract ensures (Calls.antt), and each list of calls has an answer (proofs/Answered.antt). The claim is `Claims` (Claims.antt), a field for
+-- each sentence above, of the one list in force, of the states before the cycles, as the steps make them of the data and the cycles (`history`,
+-- History.antt), and of the cycles of all the calls, counted from 0, with their reports. Ranks and bits are read from the words that the calls gave and from
+-- nothing else. From n + t on, until one after n clears, is: in every m with n + t ≤ m, if no cycle after n and up to m clears. A datum is read by
+-- `numberOf`, in an accepted list as it stands there (machine_data/proofs/Stands.antt). `binds` takes "X or stricter" as equal to X or stricter by the order
+-- of step 3, `binds-by-order` as not laxer than X: two SG of equal limit × percent are neither stricter.
+use Prim.Native.Nat.{ℕ}
+use mathlib.Core.List.{List}
+use mathlib.Core.Path.{_≡_}
+use lib.ListN.{getD, length}
+use Rattle.machine_data.specs.declared.MachineData.{MachineData}
+use Rattle.list.specs.declared.ListAnswer.the-variants.{Accepted}
+use Rattle.list.specs.Reading.{readList}
+use Rattle.state.specs.declared.Given.{Given}
+use Rattle.channel.specs.Cycle.{freshChannel}
+use Rattle.demand_3.specs.Calls.{Call, Words, Answers}
+use Rattle.demand_3.specs.History.{allCycles, cycleAt, history}
+use Rattle.demand_3.specs.Claims.{Claims}
+
+-- the claims of one list and its own history
+abbrev pub Demanded : MachineData → (ℕ → Given) → ℕ → (ℕ → ℕ) → (ℕ → ℕ) → Type 0
+Demanded m cs size channel device = Claims (λ n. m) (history m cs) cs size channel device
+
+-- the words given in cycle n
+abbrev pub wordsIn : List Words → ℕ → Words
+wordsIn given n = getD given n (record { channel = 0; device = 0 })
+
+-- "a single claim about the list": the calls give words in each of their cycles, and the claims hold of them
+abbrev pub Demand3 : Type 0
+Demand3 =
+    (s : List ℕ) (n : ℕ) → readList s .answer ≡ Accepted n →
+    (calls : List Call) (given : List Words) → Answers (freshChannel (readList s .list)) calls given →
+    (length given ≡ length (allCycles calls))
+    × Demanded (readList s .list) (cycleAt (allCycles calls)) (length (allCycles calls)) (λ i. wordsIn given i .channel) (λ i. wordsIn given i .device)

@@ -1,0 +1,4 @@
+pub mod Calls
+pub mod History
+pub mod Claims
+pub mod Demand3

@@ -1,4 +1,0 @@
-pub mod Ensures
-pub mod Calls
-pub mod History
-pub mod Demand3

@@ -1,24 +1,34 @@
 -- Document 01, "Marked P": one table of worked cases. "T is 12".
-use Prim.Native.Nat.{ℕ}
+use Prim.Native.Nat.{ℕ, suc, _-_}
 use mathlib.Core.Bool.{Bool, true, false}
 use mathlib.Core.List.{List, [], _∷_}
 use mathlib.Core.Path.{_≡_}
 use lib.IntN.{ℤ, pos, negsuc}
+use lib.ListN.{length}
 use lib.Ieee.{binary32, ofBits}
 use Rattle.bits.specs.Bits.{flag}
+<<<<<<< HEAD:crates/marked/specs/Marked.antt
 use Rattle.datum.specs.declared.Datum.the-variants.{Single}
 use Rattle.datum.specs.declared.Units.{Units}
 use Rattle.datum.specs.declared.Units.the-variants.{Are, Refused}
 use Rattle.datum.specs.Datum.{unitsOf}
 use Rattle.refusal.specs.declared.Refusal.the-variants.{NoWholeNumber}
+=======
+use Rattle.machine_data.specs.declared.MachineData.{MachineData}
+use Rattle.list.specs.declared.Datum.the-variants.{Single}
+use Rattle.list.specs.declared.Units.{Units}
+use Rattle.list.specs.declared.Units.the-variants.{Are, Refused}
+use Rattle.list.specs.Datum.{unitsOf}
+use Rattle.records.specs.declared.CycleRecord.{CycleRecord}
+>>>>>>> e3ad4cc (Worked cases in one place: marked P, the example kit, and runs that reach demand 3's bounds, by single cycles and in a log):crates/worked/specs/Marked.antt
 use Rattle.selection.specs.declared.Selection.{Selection}
 use Rattle.selection.specs.declared.Selection.the-variants.{Nothing, Sbh}
 use Rattle.stop.specs.Stop.{levelOf}
-use Rattle.causes.specs.Listed.{wanted}
-use Rattle.channel.specs.declared.State.{State}
-use Rattle.channel.specs.Causes.{rowsOf}
-use Rattle.channel.specs.Cycle.{freshState, next}
-use Rattle.marked.specs.Runs.{Entry, is, listOf, Brief, alike, apart, given, stateAfter, times}
+use Rattle.causes.specs.Codes.{wanted}
+use Rattle.state.specs.declared.Given.{Given}
+use Rattle.judge.specs.Causes.{rowsOf}
+use Rattle.demand_3.specs.History.{history}
+use Rattle.worked.specs.Runs.{Entry, is, listOf, alike, wordsApart, repeated, cyclesWith}
 
 -- what a cycle shows: whether a cause stands, the rank after it, the effective selection, F
 pub data Shown : Type 0 where
@@ -30,8 +40,8 @@ pub data Shown : Type 0 where
 pub data Case : Type 0 where
   -- the pattern of a binary32, and what the list reader makes of it, the datum standing at place 0
   binary32-is : ℕ → Units → Case
-  -- a list, the cycles before, a cycle, and what it shows
-  cycle : List Entry → List Brief → Brief → Shown → Case
+  -- a list, cycles from a fresh channel on, and what the last of them shows
+  cycles : List Entry → List CycleRecord → Shown → Case
 
 -- a row: the number behind P, and the case
 pub record Row : Type 0 where
@@ -41,15 +51,21 @@ pub record Row : Type 0 where
 abbrev pub P : ℕ → Case → Row
 P n c = record { number = n; case = c }
 
-abbrev pub shows : List ℤ → State → Brief → Shown → Type 0
-shows d s b (cause x stands) = wanted x (rowsOf d s (given d (s .k) b)) ≡ flag stands
-shows d s b (rank n) = levelOf (next d s (given d (s .k) b) .stop) ≡ n
-shows d s b (effective e) = next d s (given d (s .k) b) .choice .effective ≡ e
-shows d s b (fault f) = next d s (given d (s .k) b) .fault .on ≡ f
+-- in cycle n of those, from 0
+abbrev pub shows : MachineData → (ℕ → Given) → ℕ → Shown → Type 0
+shows m cs n (cause x stands) = wanted x (rowsOf m (history m cs n) (cs n)) ≡ flag stands
+shows m cs n (rank r) = levelOf (history m cs (suc n) .stop) ≡ r
+shows m cs n (effective e) = history m cs (suc n) .kept .choice .effective ≡ e
+shows m cs n (fault f) = history m cs (suc n) .kept .fault .on ≡ f
 
 abbrev pub Holds : Case → Type 0
+<<<<<<< HEAD:crates/marked/specs/Marked.antt
 Holds (binary32-is bits units) = unitsOf (Single (ofBits binary32 bits)) 0 ≡ units
 Holds (cycle es before b shown) = shows (listOf es) (stateAfter (listOf es) freshState before) b shown
+=======
+Holds (binary32-is bits units) = unitsOf (Single (ofBits binary32 bits)) ≡ units
+Holds (cycles es rs shown) = shows (listOf es) (cyclesWith (listOf es) rs) (length rs - 1) shown
+>>>>>>> e3ad4cc (Worked cases in one place: marked P, the example kit, and runs that reach demand 3's bounds, by single cycles and in a log):crates/worked/specs/Marked.antt
 
 abbrev pub AllHold : List Row → Type 0
 AllHold [] = Unit {0}
@@ -73,7 +89,7 @@ stop-c-and-e = 0x140001
 
 -- the first cycle at 0, the second at a position
 abbrev pub steps : List Entry → ℕ → ℤ → Shown → Case
-steps es w p shown = cycle es (alike (pos 0) w ∷ []) (alike p w) shown
+steps es w p shown = cycles es (alike (pos 0) w ∷ alike p w ∷ []) shown
 
 abbrev pub table : List Row
 table =
@@ -96,13 +112,13 @@ table =
     -- "P10 3F000000 is refused 3"
     ∷ P 10 (binary32-is 0x3f000000 (Refused (NoWholeNumber 0)))
     -- "P11 E and C together: C"
-    ∷ P 11 (cycle (is 0 12 ∷ is 1 16 ∷ is 29 5 ∷ is 31 5 ∷ []) [] (alike (pos 0) stop-c-and-e) (rank 3))
+    ∷ P 11 (cycles (is 0 12 ∷ is 1 16 ∷ is 29 5 ∷ is 31 5 ∷ []) (alike (pos 0) stop-c-and-e ∷ []) (rank 3))
     -- "P12 B time 0: A that cycle"
     ∷ P 12 (steps (is 0 12 ∷ is 1 1 ∷ is 2 10 ∷ is 32 0 ∷ []) sbh (pos 11) (rank 5))
     -- "P13 delay 3, lowered in cycle 10: binds in 13"
-    ∷ P 13 (cycle (is 0 12 ∷ is 1 1 ∷ is 27 3 ∷ []) (times 9 (alike (pos 0) off) (times 2 (alike (pos 0) sbh) [])) (alike (pos 0) sbh) (effective Nothing))
-    ∷ P 13 (cycle (is 0 12 ∷ is 1 1 ∷ is 27 3 ∷ []) (times 9 (alike (pos 0) off) (times 3 (alike (pos 0) sbh) [])) (alike (pos 0) sbh) (effective Sbh))
+    ∷ P 13 (cycles (is 0 12 ∷ is 1 1 ∷ is 27 3 ∷ []) (repeated 9 (alike (pos 0) off) (repeated 3 (alike (pos 0) sbh) [])) (effective Nothing))
+    ∷ P 13 (cycles (is 0 12 ∷ is 1 1 ∷ is 27 3 ∷ []) (repeated 9 (alike (pos 0) off) (repeated 4 (alike (pos 0) sbh) [])) (effective Sbh))
     -- "P14 allowed 2, inputs differ in 5, 6, 7: F in 7"
-    ∷ P 14 (cycle (is 0 12 ∷ is 28 2 ∷ []) (times 4 (alike (pos 0) off) (apart off sbh ∷ [])) (apart off sbh) (fault false))
-    ∷ P 14 (cycle (is 0 12 ∷ is 28 2 ∷ []) (times 4 (alike (pos 0) off) (apart off sbh ∷ apart off sbh ∷ [])) (apart off sbh) (fault true))
+    ∷ P 14 (cycles (is 0 12 ∷ is 28 2 ∷ []) (repeated 4 (alike (pos 0) off) (repeated 2 (wordsApart off sbh) [])) (fault false))
+    ∷ P 14 (cycles (is 0 12 ∷ is 28 2 ∷ []) (repeated 4 (alike (pos 0) off) (repeated 3 (wordsApart off sbh) [])) (fault true))
     ∷ []

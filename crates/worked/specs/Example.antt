@@ -1,19 +1,18 @@
 -- Document 01, "The bench program": the example kit and its six lines.
 use Prim.Native.Nat.{ℕ}
-use mathlib.Core.Bool.{false}
 use mathlib.Core.List.{List, [], _∷_}
 use lib.IntN.{pos}
 use Rattle.machine_data.specs.declared.MachineData.{MachineData}
 use Rattle.records.specs.declared.CycleRecord.{CycleRecord}
-use Rattle.marked.specs.Runs.{is, listOf}
+use Rattle.worked.specs.Runs.{is, listOf, alike}
 
 -- "both lists 0=12, 1=1, 2=10, 3=2000, 7=3, 12 and 14=100,000,000, 29=2, 32=1, else lowest"
 unfoldable pub kit : MachineData
-kit = record { values = listOf (is 0 12 ∷ is 1 1 ∷ is 2 10 ∷ is 3 2000 ∷ is 7 3 ∷ is 29 2 ∷ is 32 1 ∷ []); count = 51 }
+kit = listOf (is 0 12 ∷ is 1 1 ∷ is 2 10 ∷ is 3 2000 ∷ is 7 3 ∷ is 29 2 ∷ is 32 1 ∷ [])
 
 -- "both channels alike, inputs 2, no acknowledgement"
 abbrev pub at : ℕ → CycleRecord
-at p = record { a = record { position = pos p; inputs = 2 }; b = record { position = pos p; inputs = 2 }; acknowledged = false }
+at p = alike (pos p) 2
 
 -- "positions 0, 401, 401, 401, 412, 412"
 unfoldable pub log : List CycleRecord

@@ -1,3 +1,4 @@
 pub mod Runs
 pub mod Marked
 pub mod Example
+pub mod Sharp

@@ -1,0 +1,33 @@
+-- All that a cycle, a log and a call compute with, under one name. Assumes nothing.
+use Rattle.bits.specs.Bits
+use Rattle.machine_data.specs.Data
+use Rattle.words.specs.Words
+use Rattle.records.specs.Records
+use Rattle.inputs.specs.Usable
+use Rattle.report.specs.Report
+use Rattle.speed.specs.Speed
+use Rattle.selection.specs.Selection
+use Rattle.stop.specs.Stop
+use Rattle.comparison.specs.Comparison
+use Rattle.cams.specs.Cams
+use Rattle.causes.specs.Causes as Rows
+use Rattle.causes.specs.Codes
+use Rattle.limits.specs.Limits
+use Rattle.channel_word.specs.Word as ChannelWord
+use Rattle.judge.specs.Causes
+use Rattle.channel.specs.Cycle
+use Rattle.channel.specs.Word
+use Rattle.device.specs.Device
+use Rattle.log.specs.Run
+use Rattle.demand_3.specs.Calls
+use Rattle.demand_3.specs.History
+use Rattle.demand_3.proofs.Answered
+use Rattle.worked.specs.Runs
+
+unfoldable pub the-cycle : Unit {0}
+unfolding Bits.bitOf Bits.fieldOf Data.nearest Data.datumOf Data.numberOf Data.functionOf Usable.usableOf Speed.percentOf Speed.speedOf Speed.tooFast Speed.slower Selection.selectedOf Selection.stricter Selection.choiceNext Stop.stopNext Comparison.positionDiffers Comparison.runOf Comparison.inputsDiffer Report.datumDiffers Comparison.faultNext Comparison.expired Cams.camOf Cams.camsUpTo Rows.strongestOf Rows.freshOf Codes.wanted Limits.standstillLeft Limits.outside Limits.external Causes.choiceIn Causes.differingIn Causes.differencesIn Causes.faultIn Causes.usableRows Causes.rowsOf Cycle.strongestIn Cycle.clearsIn Cycle.enteredIn Cycle.next ChannelWord.wordBy Word.word Device.wordRank Device.deviceRank Device.deviceOf History.givensOf History.history Runs.listOf Runs.cyclesWith
+the-cycle = tt
+
+unfoldable pub the-calls : Unit {0}
+unfolding the-cycle Words.twos Words.datumOf Words.wordOf Words.wordAt Records.inputsAt Records.endingAt Records.otherAt Records.entryAt Records.logFrom Run.deviceCycle Run.lastOf Run.linesOf Run.ranOf Calls.wordsFrom Answered.answer Answered.answered
+the-calls = tt

@@ -1,0 +1,3 @@
+pub mod Computing
+pub mod Marked
+pub mod Sharp

@@ -13,7 +13,6 @@ use lib.IntN.{ℤ}
 use Rattle.machine_data.specs.declared.MachineData.{MachineData}
 use Rattle.machine_data.specs.Data.{numberOf}
 use Rattle.inputs.specs.Usable.{usableOf}
-use Rattle.speed.specs.Speed.{slower}
 use Rattle.rank.specs.declared.Rank.{Rank}
 use Rattle.rank.specs.declared.Rank.the-variants.{None, A}
 use Rattle.rank.specs.Rank.{rankNumber}
@@ -23,7 +22,7 @@ use Rattle.causes.specs.declared.Cause.{Cause}
 use Rattle.causes.specs.Causes.{freshOf, cause}
 use Rattle.state.specs.declared.State.{State}
 use Rattle.state.specs.declared.Given.{Given}
-use Rattle.judge.specs.Causes.{movedIn, choiceIn, differencesIn, anyDiffers, faultIn, usableRows, rowsOf}
+use Rattle.judge.specs.Causes.{choiceIn, differencesIn, anyDiffers, faultIn, usableRows, rowsOf}
 use Rattle.state.specs.State.{freshState}
 use Rattle.report.specs.Report.{nextK}
 use Rattle.channel.specs.Cycle.{strongestIn, clearsIn, enteredIn, unusableNext, usableNext, next}
@@ -109,9 +108,6 @@ module _ (m : MachineData) (s : State) (g : Given) where
   rank-13 u t = simp u (no-stronger 13 (usableRows m s g) t)
 
   -- ---- the state after a cycle
-
-  abbrev slow : Bool
-  slow = slower d (movedIn s g) 33
 
   -- the cases of a cycle
   by-cycle : (P : State → Type 0) → (usableOf m (g .reading) ≡ true → P (usableNext m s g (clearsIn m s g) (strongestIn m s g))) →

@@ -2,7 +2,7 @@
 use mathlib.Core.Path.{_≡_, refl}
 use lib.Ieee.{ofBits}
 use Rattle.whole.specs.Whole
-use Rattle.list.specs.Datum
+use Rattle.datum.specs.Datum
 use Rattle.channel.specs.Cycle.{freshChannel}
 use Rattle.log.specs.Run
 use Rattle.log.specs.Run.{bothOf, linesOf}

@@ -7,20 +7,13 @@ use lib.IntN.{ℤ, pos, negsuc}
 use lib.ListN.{length}
 use lib.Ieee.{binary32, ofBits}
 use Rattle.bits.specs.Bits.{flag}
-<<<<<<< HEAD:crates/marked/specs/Marked.antt
+use Rattle.machine_data.specs.declared.MachineData.{MachineData}
+use Rattle.refusal.specs.declared.Refusal.the-variants.{NoWholeNumber}
 use Rattle.datum.specs.declared.Datum.the-variants.{Single}
 use Rattle.datum.specs.declared.Units.{Units}
 use Rattle.datum.specs.declared.Units.the-variants.{Are, Refused}
 use Rattle.datum.specs.Datum.{unitsOf}
-use Rattle.refusal.specs.declared.Refusal.the-variants.{NoWholeNumber}
-=======
-use Rattle.machine_data.specs.declared.MachineData.{MachineData}
-use Rattle.list.specs.declared.Datum.the-variants.{Single}
-use Rattle.list.specs.declared.Units.{Units}
-use Rattle.list.specs.declared.Units.the-variants.{Are, Refused}
-use Rattle.list.specs.Datum.{unitsOf}
 use Rattle.records.specs.declared.CycleRecord.{CycleRecord}
->>>>>>> e3ad4cc (Worked cases in one place: marked P, the example kit, and runs that reach demand 3's bounds, by single cycles and in a log):crates/worked/specs/Marked.antt
 use Rattle.selection.specs.declared.Selection.{Selection}
 use Rattle.selection.specs.declared.Selection.the-variants.{Nothing, Sbh}
 use Rattle.stop.specs.Stop.{levelOf}
@@ -59,13 +52,8 @@ shows m cs n (effective e) = history m cs (suc n) .kept .choice .effective ≡ e
 shows m cs n (fault f) = history m cs (suc n) .kept .fault .on ≡ f
 
 abbrev pub Holds : Case → Type 0
-<<<<<<< HEAD:crates/marked/specs/Marked.antt
 Holds (binary32-is bits units) = unitsOf (Single (ofBits binary32 bits)) 0 ≡ units
-Holds (cycle es before b shown) = shows (listOf es) (stateAfter (listOf es) freshState before) b shown
-=======
-Holds (binary32-is bits units) = unitsOf (Single (ofBits binary32 bits)) ≡ units
 Holds (cycles es rs shown) = shows (listOf es) (cyclesWith (listOf es) rs) (length rs - 1) shown
->>>>>>> e3ad4cc (Worked cases in one place: marked P, the example kit, and runs that reach demand 3's bounds, by single cycles and in a log):crates/worked/specs/Marked.antt
 
 abbrev pub AllHold : List Row → Type 0
 AllHold [] = Unit {0}

@@ -21,7 +21,7 @@ use Rattle.state.specs.declared.State.{State}
 use Rattle.state.specs.declared.Given.{Given}
 use Rattle.judge.specs.Causes.{movedIn, rowsOf}
 use Rattle.channel.specs.Cycle.{strongestIn, clearsIn, enteredIn, next}
-use Rattle.demand_2.specs.Demand2.{becomesA, before, after, entered, rankIn}
+use Rattle.demand_2.specs.Demand2.{becomesA, rankBefore, rankAfter, entered, settledRank}
 use Rattle.demand_2.proofs.Stops.{counted-level, settled-level}
 
 module _ (m : MachineData) (s : State) (g : Given) where
@@ -38,16 +38,16 @@ module _ (m : MachineData) (s : State) (g : Given) where
   abbrev taken : Bool → Stop
   taken t = cond t (enteredOf (m .values) strongest) (countedOf (s .stop))
 
-  usable-rank : (p : ℤ) → levelOf (stopNext (m .values) clears strongest slow p (s .stop)) ≡ cond clears 0 (rankIn m s g (taken (outranks strongest (s .stop))))
+  usable-rank : (p : ℤ) → levelOf (stopNext (m .values) clears strongest slow p (s .stop)) ≡ cond clears 0 (settledRank m s g (taken (outranks strongest (s .stop))))
   unfolding stopNext
   usable-rank p = go clears
     where
-      go : (t : Bool) → levelOf (cond t Free (settledOf slow p (taken (outranks strongest (s .stop))))) ≡ cond t 0 (rankIn m s g (taken (outranks strongest (s .stop))))
+      go : (t : Bool) → levelOf (cond t Free (settledOf slow p (taken (outranks strongest (s .stop))))) ≡ cond t 0 (settledRank m s g (taken (outranks strongest (s .stop))))
       go true = refl
       go false = settled-level slow p (taken (outranks strongest (s .stop)))
 
   -- A is left of A, and of what A outranks
-  off-rank : (t : Bool) → ltb (levelOf (s .stop)) 5 ≡ t → 5 ≡ rankIn m s g (cond t (enteredOf (m .values) A) (countedOf (s .stop)))
+  off-rank : (t : Bool) → ltb (levelOf (s .stop)) 5 ≡ t → 5 ≡ settledRank m s g (cond t (enteredOf (m .values) A) (countedOf (s .stop)))
   off-rank true e = refl
   off-rank false e = go (becomesA slow (countedOf (s .stop)))
     where
@@ -59,11 +59,11 @@ module _ (m : MachineData) (s : State) (g : Given) where
   not-acknowledged true = refl
   not-acknowledged false = refl
 
-  rank-next : after m s g ≡ cond clears 0 (rankIn m s g (taken (outranks strongest (s .stop))))
+  rank-next : rankAfter m s g ≡ cond clears 0 (settledRank m s g (taken (outranks strongest (s .stop))))
   unfolding next
   rank-next = go (usableOf m (g .reading)) refl
     where
-      go : (u : Bool) → usableOf m (g .reading) ≡ u → after m s g ≡ cond clears 0 (rankIn m s g (taken (outranks strongest (s .stop))))
+      go : (u : Bool) → usableOf m (g .reading) ≡ u → rankAfter m s g ≡ cond clears 0 (settledRank m s g (taken (outranks strongest (s .stop))))
       go true u = simp u (usable-rank (g .reading .position))
       go false u = unfold strongestIn clearsIn rowsOf strongestOf freshOf in simp (u, not-acknowledged (g .acknowledged)) (off-rank (outranks A (s .stop)) refl)
 
@@ -71,16 +71,16 @@ module _ (m : MachineData) (s : State) (g : Given) where
 
   pub record Entering : Type 0 where
     pub is : entered m s g ≡ strongest
-    pub above : before m s g < rankNumber strongest
-    pub rank : after m s g ≡ rankIn m s g (enteredOf (m .values) strongest)
+    pub above : rankBefore m s g < rankNumber strongest
+    pub rank : rankAfter m s g ≡ settledRank m s g (enteredOf (m .values) strongest)
 
   pub record Other : Type 0 where
     pub is : entered m s g ≡ None
-    pub within : rankNumber strongest ≤ before m s g
-    pub rank : after m s g ≡ rankIn m s g (countedOf (s .stop))
+    pub within : rankNumber strongest ≤ rankBefore m s g
+    pub rank : rankAfter m s g ≡ settledRank m s g (countedOf (s .stop))
 
   pub data Case : Type 0 where
-    clearing : clears ≡ true → entered m s g ≡ None → after m s g ≡ 0 → Case
+    clearing : clears ≡ true → entered m s g ≡ None → rankAfter m s g ≡ 0 → Case
     entering : clears ≡ false → Entering → Case
     other : clears ≡ false → Other → Case
 

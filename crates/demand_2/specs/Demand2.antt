@@ -32,24 +32,24 @@ becomesA slow Cancelled = false
 
 module _ (m : MachineData) (s : State) (g : Given) where
   -- the rank before the cycle, and after it
-  abbrev pub before : ℕ
-  before = levelOf (s .stop)
+  abbrev pub rankBefore : ℕ
+  rankBefore = levelOf (s .stop)
 
-  abbrev pub after : ℕ
-  after = levelOf (next m s g .stop)
+  abbrev pub rankAfter : ℕ
+  rankAfter = levelOf (next m s g .stop)
 
   -- a cause of the cycle's table, and it stands
-  pub record Stands (c : Cause) : Type 0 where
+  pub record StandingRow (c : Cause) : Type 0 where
     pub row : List·Memᴰ c (rowsOf m s g)
     pub stands : c .stands ≡ true
 
   -- "a cause outranks the standing stop"
   abbrev pub Outranked : Type 0
-  Outranked = (c : Cause) × Stands c × (before < rankNumber (c .rank))
+  Outranked = (c : Cause) × StandingRow c × (rankBefore < rankNumber (c .rank))
 
   -- "Acknowledged and no fresh cause"; "All but 13 are fresh"
   abbrev pub Clears : Type 0
-  Clears = (g .acknowledged ≡ true) × ((c : Cause) → Stands c → c .code ≡ 13)
+  Clears = (g .acknowledged ≡ true) × ((c : Cause) → StandingRow c → c .code ≡ 13)
 
   -- the rank of the stop that is entered, none where none is
   abbrev pub entered : Rank
@@ -60,16 +60,16 @@ module _ (m : MachineData) (s : State) (g : Given) where
 
   -- "the strongest cause": one that stands has rank r, and none that stands has a greater one
   pub record Strongest (r : Rank) : Type 0 where
-    pub one : (c : Cause) × Stands c × (r ≡ c .rank)
-    pub greatest : (c : Cause) → Stands c → rankNumber (c .rank) ≤ rankNumber r
+    pub one : (c : Cause) × StandingRow c × (r ≡ c .rank)
+    pub greatest : (c : Cause) → StandingRow c → rankNumber (c .rank) ≤ rankNumber r
 
   -- "B becomes A" in this cycle, in which x is the stop that is entered, or the standing one with its count a cycle less
   abbrev pub BecomesA : Stop → Type 0
   BecomesA x = T (becomesA (slower (m .values) (movedIn s g) 33) x)
 
   -- the rank of x, A's where B becomes A
-  abbrev pub rankIn : Stop → ℕ
-  rankIn x = cond (becomesA (slower (m .values) (movedIn s g) 33) x) 5 (levelOf x)
+  abbrev pub settledRank : Stop → ℕ
+  settledRank x = cond (becomesA (slower (m .values) (movedIn s g) 33) x) 5 (levelOf x)
 
   pub record Demand2 : Type 0 where
     -- "A stop is entered if and only if a cause outranks the standing stop and no acknowledgement clears it"
@@ -77,9 +77,9 @@ module _ (m : MachineData) (s : State) (g : Given) where
     -- it is the strongest cause's
     pub entered-strongest : Enters → Strongest entered
     -- the rank after a cycle that clears, after one that enters a stop, and after any other
-    pub after-clear : Clears → after ≡ 0
-    pub after-entry : Enters → after ≡ rankIn (enteredOf (m .values) entered)
-    pub after-other : (Clears → ⊥) → (Enters → ⊥) → after ≡ rankIn (countedOf (s .stop))
+    pub after-clear : Clears → rankAfter ≡ 0
+    pub after-entry : Enters → rankAfter ≡ settledRank (enteredOf (m .values) entered)
+    pub after-other : (Clears → ⊥) → (Enters → ⊥) → rankAfter ≡ settledRank (countedOf (s .stop))
     -- "apart from B becoming A the rank changes in no other way": it rises where a stop is entered or the standing B becomes A, and falls where it is cleared
-    pub rises-iff : (before < after) ↔ (Enters ⊎ ((Clears → ⊥) × BecomesA (countedOf (s .stop))))
-    pub falls-cleared : after < before → Clears
+    pub rises-iff : (rankBefore < rankAfter) ↔ (Enters ⊎ ((Clears → ⊥) × BecomesA (countedOf (s .stop))))
+    pub falls-cleared : rankAfter < rankBefore → Clears

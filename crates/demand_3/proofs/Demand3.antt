@@ -18,7 +18,7 @@ use Rattle.channel_word.specs.Word.{isHeld}
 use Rattle.channel.specs.Word.{word}
 use Rattle.demand_3.specs.Calls.{Call, Words, Answers}
 use Rattle.demand_3.specs.History.{allCycles, cycleAt, history}
-use Rattle.demand_3.specs.Claims.{isLimit, AtLeast, NoLaxer, rankInWord, rankInDevice, left, Claims}
+use Rattle.demand_3.specs.Claims.{isLimit, AtLeast, NoLaxer, rankInWord, rankInDevice, stateAfter, Claims}
 use Rattle.demand_3.specs.Demand3.{Demanded, wordsIn, Demand3}
 use Rattle.demand_3.proofs.OfWord.{Shows, shows}
 use Rattle.demand_3.proofs.Cycles.{Ready, ready, fresh-ready, sound-next}
@@ -41,11 +41,11 @@ module _ (L : ℕ → MachineData) (S : ℕ → State) (G : ℕ → Given) (goes
   abbrev level : ℕ → ℕ
   level n = H.level L S G goes n
 
-  shown-at : (n : ℕ) → n < size → Shows (channel n) (left L S G n)
+  shown-at : (n : ℕ) → n < size → Shows (channel n) (stateAfter L S G n)
   unfolding word
   shown-at n l =
       let s = H.sound-at L S G goes n in
-      subst (λ w. Shows w (left L S G n)) (sym (gave n l .word-is)) (shows (L n .values) (left L S G n) _ (s .cams) (s .numbered))
+      subst (λ w. Shows w (stateAfter L S G n)) (sym (gave n l .word-is)) (shows (L n .values) (stateAfter L S G n) _ (s .cams) (s .numbered))
 
   device-least : (n : ℕ) → n < size → level n ≤ rankInDevice (device n)
   device-least n l = omega (arith, shown-at n l .word-rank, gave n l .over .least)
@@ -56,7 +56,7 @@ module _ (L : ℕ → MachineData) (S : ℕ → State) (G : ℕ → Given) (goes
   device-off : (n : ℕ) → n < size → level n ≡ 5 → rankInDevice (device n) ≡ 5
   device-off n l e = omega (arith, device-least n l, device-most n l)
 
-  held-shown : (m r : ℕ) → m < size → ((level m ≡ r) × T (isHeld (left L S G m .stop))) ⊎ (r < level m) →
+  held-shown : (m r : ℕ) → m < size → ((level m ≡ r) × T (isHeld (stateAfter L S G m .stop))) ⊎ (r < level m) →
       ((rankInWord (channel m) ≡ r) × T (bitOf (channel m) 27)) ⊎ (r < rankInWord (channel m))
   held-shown m r l (inl h) = inl (shown-at m l .rank ∙ h .0, subst T (sym (shown-at m l .held)) (h .1))
   held-shown m r l (inr h) = inr (omega (arith, shown-at m l .rank))

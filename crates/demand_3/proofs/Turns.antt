@@ -17,7 +17,7 @@ use Rattle.state.specs.declared.Given.{Given}
 use Rattle.channel.specs.Cycle.{strongestIn, clearsIn}
 use Rattle.channel_word.specs.Word.{isHeld}
 use Rattle.demand_2.proofs.Demand2.{no-weaker, cause-met}
-use Rattle.demand_3.specs.Claims.{left, causeIn, Stands, Clears, Uncleared, entered}
+use Rattle.demand_3.specs.Claims.{stateAfter, causeIn, Stands, Clears, Uncleared, entered}
 use Rattle.laws.proofs.Bools.{is-false}
 use Rattle.demand_3.proofs.OverTime.{reached}
 use Rattle.demand_3.proofs.OfStop.{time-most, b-time, a-time}
@@ -54,11 +54,11 @@ unchanged s =
 pub record Goes (L : ℕ → MachineData) (S : ℕ → State) (G : ℕ → Given) : Type 0 where
   pub none-chosen : S 0 .kept .choice .chosen ≡ false
   pub ready : (n : ℕ) → Ready (L n) (S n)
-  pub passes : (n : ℕ) → Passes (left L S G n) (S (suc n))
+  pub passes : (n : ℕ) → Passes (stateAfter L S G n) (S (suc n))
 
 module _ (L : ℕ → MachineData) (S : ℕ → State) (G : ℕ → Given) (goes : Goes L S G) where
   abbrev after : ℕ → State
-  after n = left L S G n
+  after n = stateAfter L S G n
 
   -- the rank that cycle n leaves, and its number
   abbrev rank : ℕ → Rank

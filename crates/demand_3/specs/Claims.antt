@@ -82,8 +82,8 @@ module _ (L : ℕ → MachineData) (G : ℕ → Given) where
 
 module _ (L : ℕ → MachineData) (S : ℕ → State) (G : ℕ → Given) where
   -- the state that cycle n leaves
-  abbrev pub left : ℕ → State
-  left n = next (L n) (S n) (G n)
+  abbrev pub stateAfter : ℕ → State
+  stateAfter n = next (L n) (S n) (G n)
 
   -- cause x in cycle n, and that it stands there
   abbrev pub causeIn : ℕ → ℕ → Cause
@@ -106,7 +106,7 @@ module _ (L : ℕ → MachineData) (S : ℕ → State) (G : ℕ → Given) where
 
   -- the selection that is effective in cycle n
   abbrev pub effective : ℕ → Selection
-  effective n = left n .kept .choice .effective
+  effective n = stateAfter n .kept .choice .effective
 
   -- `size` cycles, and the words given in each
   pub record Claims (size : ℕ) (channel device : ℕ → ℕ) : Type 0 where

@@ -29,5 +29,5 @@ unfolding Bits.bitOf Bits.fieldOf Data.nearest Data.datumOf Data.numberOf Data.f
 the-cycle = tt
 
 unfoldable pub the-calls : Unit {0}
-unfolding the-cycle Words.twos Words.datumOf Words.wordOf Words.wordAt Records.inputsAt Records.endingAt Records.otherAt Records.entryAt Records.logFrom Run.deviceCycle Run.lastOf Run.linesOf Run.ranOf Calls.wordsFrom Answered.answer Answered.answered
+unfolding the-cycle Words.twos Words.datumWord Words.wordOf Words.wordAt Records.inputsAt Records.endingAt Records.otherAt Records.entryAt Records.logFrom Run.deviceCycle Run.lastOf Run.linesOf Run.ranOf Calls.wordsFrom Answered.answer Answered.answered
 the-calls = tt

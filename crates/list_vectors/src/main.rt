@@ -253,9 +253,15 @@ fn put_refusal(why: Refusal) {
 
 fn put_part(part: Part) {
     match part {
-        Part::ListA => io::write_all(STDOUT_FILENO, b" A"),
-        Part::ListB => io::write_all(STDOUT_FILENO, b" B"),
-        Part::Log => io::write_all(STDOUT_FILENO, b" L"),
+        Part::ListA => {
+            io::write_all(STDOUT_FILENO, b" A");
+        }
+        Part::ListB => {
+            io::write_all(STDOUT_FILENO, b" B");
+        }
+        Part::Log => {
+            io::write_all(STDOUT_FILENO, b" L");
+        }
     }
 }
 

@@ -76,7 +76,7 @@ module _ (L : ℕ → MachineData) (G : ℕ → Given) where
   abbrev pub window : ℕ → ℕ → List ℕ
   window n w = take (suc w) (usableBefore (suc n))
 
-  -- "as many as datum 27 says", by the list in force in the first of them
+  -- "as many as datum 27 says", by the list in force in the first of them, or in cycle 0 where there are fewer
   abbrev pub Waited : ℕ → ℕ → Type 0
   Waited n w = numberOf (L (getD (usableBefore (suc n)) w 0) .values) 27 ≤ w
 

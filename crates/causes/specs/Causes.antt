@@ -54,3 +54,10 @@ addTo c s =
 
 abbrev pub summedFrom : List Cause → Summary → Summary
 summedFrom = overRows addTo
+
+-- whether any row stands
+abbrev pub standsOr : Cause → Bool → Bool
+standsOr c any = cond (c .stands) true any
+
+abbrev pub anyStands : List Cause → Bool
+anyStands rows = overRows standsOr rows false

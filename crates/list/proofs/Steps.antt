@@ -97,9 +97,9 @@ not-below a b false e = go (ltZ a b) refl
     go false q = absurd (subst T (sym (is-true (leZ b a) (ltZ-no {a = a} {b = b} (subst (λ (t : Bool). T (not t)) (sym q) tt) .le)) ∙ e) tt)
 
 -- two elements of an array of i32, as the machine compares them
-pub compared : (vs : List ℤ) (k : ℕ) (t : Bool) → mag (getD vs (suc k) (pos 0)) < 2147483648 → mag (getD vs k (pos 0)) < 2147483648 →
+pub below-by-test : (vs : List ℤ) (k : ℕ) (t : Bool) → mag (getD vs (suc k) (pos 0)) < 2147483648 → mag (getD vs k (pos 0)) < 2147483648 →
     leZ (toZ w32 (ofZ w32 (getD vs (suc k) (pos 0)))) (toZ w32 (ofZ w32 (getD vs k (pos 0)))) ≡ t → seBelow vs k ≡ not t
-compared vs k t p q e =
+below-by-test vs k t p q e =
     not-below (getD vs k (pos 0)) (getD vs (suc k) (pos 0)) t
     (sym (λ x. leZ (toZ-ofZ w32 (getD vs (suc k) (pos 0)) (record { sfits = p }) x) (toZ-ofZ w32 (getD vs k (pos 0)) (record { sfits = q }) x)) ∙ e)
 

@@ -84,18 +84,18 @@ module _ (vs : List ℤ) (minus plus : ℤ) (later : List ℤ) (p : ℕ) (many :
       let at : j ≡ length vs + i = omega (arith, many, e) in
       ap (λ (n : ℕ). getD (vs ++ (minus ∷ plus ∷ later)) n (pos 0)) at ∙ getD-append-add vs (minus ∷ plus ∷ later) i (pos 0)
 
-  compared : seBelow (vs ++ (minus ∷ plus ∷ later)) p ≡ ltZ minus plus
-  compared = λ i. ltZ (behind-seam 0 p (omega arith) i) (behind-seam 1 (suc p) (omega arith) i)
+  below-at-seam : seBelow (vs ++ (minus ∷ plus ∷ later)) p ≡ ltZ minus plus
+  below-at-seam = λ i. ltZ (behind-seam 0 p (omega arith) i) (behind-seam 1 (suc p) (omega arith) i)
 
--- an SE that stands before p values are passed
-before-seam : (vs more : List ℤ) (k : ℕ) → suc k < length vs → seBelow (vs ++ more) k ≡ seBelow vs k
-before-seam vs more k low = λ i. ltZ (List·getD-append vs more (pos 0) k (omega (arith, low)) i) (List·getD-append vs more (pos 0) (suc k) low i)
+-- an SE whose two ends stand in the first part
+below-before-seam : (vs more : List ℤ) (k : ℕ) → suc k < length vs → seBelow (vs ++ more) k ≡ seBelow vs k
+below-before-seam vs more k low = λ i. ltZ (List·getD-append vs more (pos 0) k (omega (arith, low)) i) (List·getD-append vs more (pos 0) (suc k) low i)
 
 -- ---- what is faulty is refused
 
 -- the data behind a head
-begun : {w n : ℕ} (ws : List ℕ) → IsWord w (W.Head n) → T (isHead n) → readList (w ∷ ws) ≡ gather n (w ∷ ws) 0 1 zeros
-begun {w} {n} ws h size = sym (by-head (w ∷ ws) (front-reads (w ∷ ws) 0 w ws refl h) (is-true (isHead n) size))
+by-data : {w n : ℕ} (ws : List ℕ) → IsWord w (W.Head n) → T (isHead n) → readList (w ∷ ws) ≡ gather n (w ∷ ws) 0 1 zeros
+by-data {w} {n} ws h size = sym (by-head (w ∷ ws) (front-reads (w ∷ ws) 0 w ws refl h) (is-true (isHead n) size))
 
 -- all of them in two parts
 module _ {w n p : ℕ} {vs late : List ℤ} {before from : List ℕ} (rest : List ℕ) (h : IsWord w (W.Head n)) (size : T (isHead n)) (x : DataTo p 0 vs before) (y : DataTo n p late from) where
@@ -106,7 +106,7 @@ module _ {w n p : ℕ} {vs late : List ℤ} {before from : List ℕ} (rest : Lis
   to-ends =
       let t = joined x y in
       let e : before ++ (from ++ rest) ≡ t .0 ++ rest = sym (append-assoc before from rest) ∙ ap (λ (l : List ℕ). l ++ rest) (sym (t .1)) in
-      (1 + length (t .0), begun (before ++ (from ++ rest)) h size ∙ all-passed (eqb→eq n dataCount size) (t .2) all-words rest e)
+      (1 + length (t .0), by-data (before ++ (from ++ rest)) h size ∙ all-passed (eqb→eq n dataCount size) (t .2) all-words rest e)
 
   at-minus : refusedList (SeEnds (placeOf all-words p)) ≡ refusedList (SeEnds (suc (length before)))
   at-minus = let place : placeOf all-words p ≡ suc (length before) = omega (arith, place-behind x all-words (from ++ rest) refl) in ap (λ (i : ℕ). refusedList (SeEnds i)) place
@@ -119,7 +119,7 @@ refuses (F.datum {w} {n} {k} {m} {cause} {vs} {before} {ws} h size low x f) =
     let y = passed (suc (n - suc k)) x s 1 ws refl zeros (length-replicate dataCount (pos 0)) in
     let many : n ≡ length vs + suc (n - suc k) = omega (arith, how-many x, low) in
     let place : 1 + length before + m ≡ suc (length before + m) = omega arith in
-    begun (before ++ ws) h size
+    by-data (before ++ ws) h size
     ∙ ap (λ (i : ℕ). gather i s 0 1 zeros) many
     ∙ y .3
     ∙ ap (λ (t : D.DatumAnswer). onValue t (λ z next. gather (n - suc k) s (k + 1) next (set (y .0) k z))) (fault-value f s (1 + length before) (behind s 1 before ws refl))
@@ -129,15 +129,15 @@ refuses (se1 {w} {n} {minus} {plus} {vs} {later} {before} {behind = from} rest h
     let d : MachineData = record { values = vs ++ (minus ∷ plus ∷ later); count = n } in
     let many : length vs ≡ 11 = omega (arith, how-many x) in
     t .1
-    ∙ sym (ended-by (w ∷ (before ++ (from ++ rest))) d (t .0) (compared vs minus plus later 11 many ∙ is-false (ltZ minus plus) wrong) refl)
+    ∙ sym (ended-by (w ∷ (before ++ (from ++ rest))) d (t .0) (below-at-seam vs minus plus later 11 many ∙ is-false (ltZ minus plus) wrong) refl)
     ∙ at-minus rest h size x y
 refuses (se2 {w} {n} {minus} {plus} {vs} {later} {before} {behind = from} rest h size x y right wrong) =
     let t = to-ends rest h size x y in
     let d : MachineData = record { values = vs ++ (minus ∷ plus ∷ later); count = n } in
     let many : length vs ≡ 13 = omega (arith, how-many x) in
-    let fine : seBelow (vs ++ (minus ∷ plus ∷ later)) 11 ≡ true = before-seam vs (minus ∷ plus ∷ later) 11 (omega (arith, many)) ∙ is-true (seBelow vs 11) right in
+    let fine : seBelow (vs ++ (minus ∷ plus ∷ later)) 11 ≡ true = below-before-seam vs (minus ∷ plus ∷ later) 11 (omega (arith, many)) ∙ is-true (seBelow vs 11) right in
     t .1
-    ∙ sym (ended-by (w ∷ (before ++ (from ++ rest))) d (t .0) fine (compared vs minus plus later 13 many ∙ is-false (ltZ minus plus) wrong))
+    ∙ sym (ended-by (w ∷ (before ++ (from ++ rest))) d (t .0) fine (below-at-seam vs minus plus later 13 many ∙ is-false (ltZ minus plus) wrong))
     ∙ at-minus rest h size x y
 
 -- ---- what is refused is faulty
@@ -224,7 +224,7 @@ module _ (s : List ℕ) (n : ℕ) (head : IsWord (getD s 0 0) (W.Head n)) (size 
     wrong : (p : ℕ) (t : Pair p) → seBelow vs p ≡ false → T (ltZ (t .minus) (t .plus)) → ⊥
     wrong p t q =
         let many : length (t .early) ≡ p = omega (arith, how-many (t .first)) in
-        subst T (sym (compared (t .early) (t .minus) (t .plus) (t .later) p many) ∙ ap (λ (l : List ℤ). seBelow l p) (sym (t .values)) ∙ q)
+        subst T (sym (below-at-seam (t .early) (t .minus) (t .plus) (t .later) p many) ∙ ap (λ (l : List ℤ). seBelow l p) (sym (t .values)) ∙ q)
 
     ends-fault : (at : ℕ) {why : Refusal} → ends s (record { values = vs; count = n }) at ≡ refusedList why → IsFault s why
     unfolding ends
@@ -239,7 +239,7 @@ module _ (s : List ℕ) (n : ℕ) (head : IsWord (getD s 0 0) (W.Head n)) (size 
         go true p false q g =
             let t = pair 13 (omega (arith, enough)) in
             let low : 12 < length (t .early) = omega (arith, how-many (t .first)) in
-            let right : seBelow (t .early) 11 ≡ true = sym (before-seam (t .early) _ 11 low) ∙ ap (λ (l : List ℤ). seBelow l 11) (sym (t .values)) ∙ p in
+            let right : seBelow (t .early) 11 ≡ true = sym (below-before-seam (t .early) _ 11 low) ∙ ap (λ (l : List ℤ). seBelow l 11) (sym (t .values)) ∙ p in
             put (t .laid) (ap SeEnds (sym (t .place)) ∙ answer g) (se2 rest head size (t .first) (t .second) (subst T (sym right) tt) (wrong 13 t q))
         go true p true q g = never (cc (ap (λ (y : ListRead). y .answer) g))
 

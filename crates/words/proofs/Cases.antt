@@ -4,7 +4,7 @@ use mathlib.Core.Bool.{Bool, true, false, cond}
 use mathlib.Core.List.{List, [], _∷_}
 use Prim.Native.Nat.{ℕ, _<_}
 use lib.ListN.{length, getD}
-use lib.Dec.{T, ltb}
+use lib.Dec.{T, ltb, eqb}
 use borrow.Author.Tests.{ltb-true}
 use lib.IntN.{ℤ}
 use denote.Enum.Declared.{tagOf}
@@ -48,10 +48,10 @@ case-remark x held other = elim x [ Head n ↦ missed refl | Datum k f ↦ misse
 -- ---- what follows for every kind
 
 -- where the answer is not `other`, the word is of the kind, and what it holds gave the answer
-pub from-held : {A B : Type 0} {is : Word → Bool} {made : B → Word} {x : Word} {held : B → A} {other r : A} → Case is made x held other r → (other ≡ r → ⊥) →
+pub from-held : {A B : Type 0} {is : Word → Bool} {made : B → Word} {x : Word} {held : B → A} {other a r : A} → Case is made x held other a → a ≡ r → (other ≡ r → ⊥) →
     (b : B) × (x ≡ made b) × (held b ≡ r)
-from-held (met b e) h = (b, e, refl)
-from-held (missed q) h = absurd (h refl)
+from-held (met b e) h apart = (b, e, h)
+from-held (missed q) h apart = absurd (apart h)
 
 -- a word that a `let .. else` leaves out, by its tag
 pub left-out : {A B : Type 0} {is : Word → Bool} {made : B → Word} {x : Word} {held : B → A} {other r : A} → Case is made x held other r →
@@ -72,53 +72,61 @@ fitting (missed q) t = absurd t
 
 -- ---- kind by kind
 
-pub no-head : {A : Type 0} (x : Word) → OneOf (1 ∷ 2 ∷ 3 ∷ 4 ∷ 5 ∷ 6 ∷ 7 ∷ 8 ∷ []) (tagOf the-type x) → (held : ℕ → A) (other : A) → other ≡ ifHead x held other
-no-head x h held other = left-out (case-head x held other) (1 ∷ 2 ∷ 3 ∷ 4 ∷ 5 ∷ 6 ∷ 7 ∷ 8 ∷ []) (λ b. miss (1 ∷ 2 ∷ 3 ∷ 4 ∷ 5 ∷ 6 ∷ 7 ∷ 8 ∷ []) 0 tt) h
+-- the tags of every word but one
+abbrev but : ℕ → List ℕ → List ℕ
+but n [] = []
+but n (t ∷ ts) = cond (eqb t n) (but n ts) (t ∷ but n ts)
+
+abbrev pub tagsBut : ℕ → List ℕ
+tagsBut n = but n (0 ∷ 1 ∷ 2 ∷ 3 ∷ 4 ∷ 5 ∷ 6 ∷ 7 ∷ 8 ∷ [])
+
+pub no-head : {A : Type 0} (x : Word) → OneOf (tagsBut 0) (tagOf the-type x) → (held : ℕ → A) (other : A) → other ≡ ifHead x held other
+no-head x h held other = left-out (case-head x held other) (tagsBut 0) (λ b. miss (tagsBut 0) 0 tt) h
 
 pub is-head : {A : Type 0} (x : Word) (held : ℕ → A) (other r : A) → ifHead x held other ≡ r → (other ≡ r → ⊥) → (n : ℕ) × (x ≡ Head n) × (held n ≡ r)
-is-head x held other r e apart = let h = from-held (case-head x held other) (λ y. apart (y ∙ e)) in (h .0, h .1, h .2 ∙ e)
+is-head x held other r e apart = from-held (case-head x held other) e apart
 
-pub no-datum : {A : Type 0} (x : Word) → OneOf (0 ∷ 2 ∷ 3 ∷ 4 ∷ 5 ∷ 6 ∷ 7 ∷ 8 ∷ []) (tagOf the-type x) → (held : ℕ → ℕ → A) (other : A) → other ≡ ifDatum x held other
-no-datum x h held other = left-out (case-datum x held other) (0 ∷ 2 ∷ 3 ∷ 4 ∷ 5 ∷ 6 ∷ 7 ∷ 8 ∷ []) (λ b. miss (0 ∷ 2 ∷ 3 ∷ 4 ∷ 5 ∷ 6 ∷ 7 ∷ 8 ∷ []) 1 tt) h
+pub no-datum : {A : Type 0} (x : Word) → OneOf (tagsBut 1) (tagOf the-type x) → (held : ℕ → ℕ → A) (other : A) → other ≡ ifDatum x held other
+no-datum x h held other = left-out (case-datum x held other) (tagsBut 1) (λ b. miss (tagsBut 1) 1 tt) h
 
 pub is-datum : {A : Type 0} (x : Word) (held : ℕ → ℕ → A) (other r : A) → ifDatum x held other ≡ r → (other ≡ r → ⊥) → (n : ℕ) × (form : ℕ) × (x ≡ Datum n form) × (held n form ≡ r)
-is-datum x held other r e apart = let h = from-held (case-datum x held other) (λ y. apart (y ∙ e)) in (h .0 .0, h .0 .1, h .1, h .2 ∙ e)
+is-datum x held other r e apart = let h = from-held (case-datum x held other) e apart in (h .0 .0, h .0 .1, h .1, h .2)
 
-pub no-piece : {A : Type 0} (x : Word) → OneOf (0 ∷ 1 ∷ 3 ∷ 4 ∷ 5 ∷ 6 ∷ 7 ∷ 8 ∷ []) (tagOf the-type x) → (held : ℕ → A) (other : A) → other ≡ ifPiece x held other
-no-piece x h held other = left-out (case-piece x held other) (0 ∷ 1 ∷ 3 ∷ 4 ∷ 5 ∷ 6 ∷ 7 ∷ 8 ∷ []) (λ b. miss (0 ∷ 1 ∷ 3 ∷ 4 ∷ 5 ∷ 6 ∷ 7 ∷ 8 ∷ []) 2 tt) h
+pub no-piece : {A : Type 0} (x : Word) → OneOf (tagsBut 2) (tagOf the-type x) → (held : ℕ → A) (other : A) → other ≡ ifPiece x held other
+no-piece x h held other = left-out (case-piece x held other) (tagsBut 2) (λ b. miss (tagsBut 2) 2 tt) h
 
 pub is-piece : {A : Type 0} (x : Word) (held : ℕ → A) (other r : A) → ifPiece x held other ≡ r → (other ≡ r → ⊥) → (b : ℕ) × (x ≡ Piece b) × (held b ≡ r)
-is-piece x held other r e apart = let h = from-held (case-piece x held other) (λ y. apart (y ∙ e)) in (h .0, h .1, h .2 ∙ e)
+is-piece x held other r e apart = from-held (case-piece x held other) e apart
 
-pub no-position : {A : Type 0} (x : Word) → OneOf (0 ∷ 1 ∷ 2 ∷ 4 ∷ 5 ∷ 6 ∷ 7 ∷ 8 ∷ []) (tagOf the-type x) → (held : ℤ → A) (other : A) → other ≡ ifPosition x held other
-no-position x h held other = left-out (case-position x held other) (0 ∷ 1 ∷ 2 ∷ 4 ∷ 5 ∷ 6 ∷ 7 ∷ 8 ∷ []) (λ b. miss (0 ∷ 1 ∷ 2 ∷ 4 ∷ 5 ∷ 6 ∷ 7 ∷ 8 ∷ []) 3 tt) h
+pub no-position : {A : Type 0} (x : Word) → OneOf (tagsBut 3) (tagOf the-type x) → (held : ℤ → A) (other : A) → other ≡ ifPosition x held other
+no-position x h held other = left-out (case-position x held other) (tagsBut 3) (λ b. miss (tagsBut 3) 3 tt) h
 
 pub is-position : {A : Type 0} (x : Word) (held : ℤ → A) (other r : A) → ifPosition x held other ≡ r → (other ≡ r → ⊥) → (z : ℤ) × (x ≡ Position z) × (held z ≡ r)
-is-position x held other r e apart = let h = from-held (case-position x held other) (λ y. apart (y ∙ e)) in (h .0, h .1, h .2 ∙ e)
+is-position x held other r e apart = from-held (case-position x held other) e apart
 
-pub no-lower : {A : Type 0} (x : Word) → OneOf (0 ∷ 1 ∷ 2 ∷ 3 ∷ 5 ∷ 6 ∷ 7 ∷ 8 ∷ []) (tagOf the-type x) → (held : ℕ → A) (other : A) → other ≡ ifLower x held other
-no-lower x h held other = left-out (case-lower x held other) (0 ∷ 1 ∷ 2 ∷ 3 ∷ 5 ∷ 6 ∷ 7 ∷ 8 ∷ []) (λ b. miss (0 ∷ 1 ∷ 2 ∷ 3 ∷ 5 ∷ 6 ∷ 7 ∷ 8 ∷ []) 4 tt) h
+pub no-lower : {A : Type 0} (x : Word) → OneOf (tagsBut 4) (tagOf the-type x) → (held : ℕ → A) (other : A) → other ≡ ifLower x held other
+no-lower x h held other = left-out (case-lower x held other) (tagsBut 4) (λ b. miss (tagsBut 4) 4 tt) h
 
 pub is-lower : {A : Type 0} (x : Word) (held : ℕ → A) (other r : A) → ifLower x held other ≡ r → (other ≡ r → ⊥) → (b : ℕ) × (x ≡ Lower b) × (held b ≡ r)
-is-lower x held other r e apart = let h = from-held (case-lower x held other) (λ y. apart (y ∙ e)) in (h .0, h .1, h .2 ∙ e)
+is-lower x held other r e apart = from-held (case-lower x held other) e apart
 
-pub no-upper : {A : Type 0} (x : Word) → OneOf (0 ∷ 1 ∷ 2 ∷ 3 ∷ 4 ∷ 6 ∷ 7 ∷ 8 ∷ []) (tagOf the-type x) → (held : ℕ → A) (other : A) → other ≡ ifUpper x held other
-no-upper x h held other = left-out (case-upper x held other) (0 ∷ 1 ∷ 2 ∷ 3 ∷ 4 ∷ 6 ∷ 7 ∷ 8 ∷ []) (λ b. miss (0 ∷ 1 ∷ 2 ∷ 3 ∷ 4 ∷ 6 ∷ 7 ∷ 8 ∷ []) 5 tt) h
+pub no-upper : {A : Type 0} (x : Word) → OneOf (tagsBut 5) (tagOf the-type x) → (held : ℕ → A) (other : A) → other ≡ ifUpper x held other
+no-upper x h held other = left-out (case-upper x held other) (tagsBut 5) (λ b. miss (tagsBut 5) 5 tt) h
 
 pub is-upper : {A : Type 0} (x : Word) (held : ℕ → A) (other r : A) → ifUpper x held other ≡ r → (other ≡ r → ⊥) → (b : ℕ) × (x ≡ Upper b) × (held b ≡ r)
-is-upper x held other r e apart = let h = from-held (case-upper x held other) (λ y. apart (y ∙ e)) in (h .0, h .1, h .2 ∙ e)
+is-upper x held other r e apart = from-held (case-upper x held other) e apart
 
-pub no-end : {A : Type 0} (x : Word) → OneOf (0 ∷ 1 ∷ 2 ∷ 3 ∷ 4 ∷ 5 ∷ 7 ∷ 8 ∷ []) (tagOf the-type x) → (held : Bool → A) (other : A) → other ≡ ifEnd x held other
-no-end x h held other = left-out (case-end x held other) (0 ∷ 1 ∷ 2 ∷ 3 ∷ 4 ∷ 5 ∷ 7 ∷ 8 ∷ []) (λ b. miss (0 ∷ 1 ∷ 2 ∷ 3 ∷ 4 ∷ 5 ∷ 7 ∷ 8 ∷ []) 6 tt) h
+pub no-end : {A : Type 0} (x : Word) → OneOf (tagsBut 6) (tagOf the-type x) → (held : Bool → A) (other : A) → other ≡ ifEnd x held other
+no-end x h held other = left-out (case-end x held other) (tagsBut 6) (λ b. miss (tagsBut 6) 6 tt) h
 
 pub is-end : {A : Type 0} (x : Word) (held : Bool → A) (other r : A) → ifEnd x held other ≡ r → (other ≡ r → ⊥) → (a : Bool) × (x ≡ End a) × (held a ≡ r)
-is-end x held other r e apart = let h = from-held (case-end x held other) (λ y. apart (y ∙ e)) in (h .0, h .1, h .2 ∙ e)
+is-end x held other r e apart = from-held (case-end x held other) e apart
 
-pub no-remark : {A : Type 0} (x : Word) → OneOf (0 ∷ 1 ∷ 2 ∷ 3 ∷ 4 ∷ 5 ∷ 6 ∷ 8 ∷ []) (tagOf the-type x) → (held : A) (other : A) → other ≡ ifRemark x held other
-no-remark x h held other = left-out (case-remark x held other) (0 ∷ 1 ∷ 2 ∷ 3 ∷ 4 ∷ 5 ∷ 6 ∷ 8 ∷ []) (λ b. miss (0 ∷ 1 ∷ 2 ∷ 3 ∷ 4 ∷ 5 ∷ 6 ∷ 8 ∷ []) 7 tt) h
+pub no-remark : {A : Type 0} (x : Word) → OneOf (tagsBut 7) (tagOf the-type x) → (held : A) (other : A) → other ≡ ifRemark x held other
+no-remark x h held other = left-out (case-remark x held other) (tagsBut 7) (λ b. miss (tagsBut 7) 7 tt) h
 
 pub is-remark : {A : Type 0} (x : Word) (held : A) (other r : A) → ifRemark x held other ≡ r → (other ≡ r → ⊥) → (x ≡ Remark) × (held ≡ r)
-is-remark x held other r e apart = let h = from-held (case-remark x held other) (λ y. apart (y ∙ e)) in (h .1, h .2 ∙ e)
+is-remark x held other r e apart = let h = from-held (case-remark x held other) e apart in (h .1, h .2)
 
 -- a word of the format stands within the words
 pub there : (s : List ℕ) (at : ℕ) → (wordAt s at ≡ Other → ⊥) → at < length s

@@ -5,7 +5,7 @@ use mathlib.Core.List.{List}
 use mathlib.Core.Path.{_≡_, refl}
 use lib.Dec.{ltb}
 use lib.ListN.{length}
-use Rattle.records.specs.declared.CycleRecord.{CycleRecord}
+use Rattle.seven.specs.declared.CycleRecord.{CycleRecord}
 use Rattle.records.specs.Records.{LogRead, records, fault, logOf}
 use Rattle.channel.specs.declared.Channel.{Channel}
 use Rattle.log.specs.Run.{refusing, running, byRecords, ranOf}

@@ -10,7 +10,7 @@ use lib.ListN.{length}
 use lib.Dec.{ltb}
 use borrow.Author.Tests.{le-ltb, ltb-false}
 use Rattle.words.proofs.Absurd.{never}
-use Rattle.records.specs.declared.CycleRecord.{CycleRecord}
+use Rattle.seven.specs.declared.CycleRecord.{CycleRecord}
 use Rattle.records.specs.Records.{LogRead, records, fault, logOf}
 use Rattle.records.specs.IsLog.{IsLog}
 use Rattle.records.proofs.Logs.{is-log}

@@ -8,7 +8,7 @@ use lib.ListN.{length, drop}
 use lib.Dec.{ltb}
 use borrow.Author.Tests.{lt-ltb, le-ltb}
 use Rattle.words.proofs.Absurd.{never}
-use Rattle.records.specs.declared.CycleRecord.{CycleRecord}
+use Rattle.seven.specs.declared.CycleRecord.{CycleRecord}
 use Rattle.records.specs.declared.Entry as E
 use Rattle.records.specs.declared.Scan as S
 use Rattle.records.specs.Records.{entryAt, LogRead, records, fault, before, onEntry, logFrom, logOf, counted, scanOf}

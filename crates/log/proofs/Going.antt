@@ -2,9 +2,10 @@
 use mathlib.Core.Path.{_≡_, refl, sym, ap, _∙_, subst}
 use mathlib.Core.Bool.{Bool, true, false, cond}
 use mathlib.Core.List.{List, [], _∷_}
-use Prim.Native.Nat.{ℕ, _+_, _*_, _/_, _≤_, _<_}
+use Prim.Native.Nat.{ℕ, _+_, _*_, _≤_, _<_}
 use native.Mathlib.Omega.{arith}
 use lib.ListN.{length, getD, set, length-set}
+use lib.IntN.{ℤ}
 use Rattle.machine_data.specs.declared.MachineData.{MachineData}
 use Rattle.words.proofs.Absurd.{never}
 use Rattle.channel.specs.declared.Channel.{Channel}
@@ -15,12 +16,15 @@ use Rattle.report.specs.Report.{nextK}
 use Rattle.channel.specs.Cycle.{next}
 use Rattle.channel.specs.Word.{word}
 use Rattle.channel.specs.Ensures.{AdvanceEnsures}
-use Rattle.records.specs.declared.CycleRecord.{CycleRecord}
+use Rattle.seven.specs.declared.CycleRecord.{CycleRecord}
 use Rattle.records.specs.declared.Entry as E
 use Rattle.records.specs.Records.{entryAt, LogRead, records, fault, before, logOf}
-use Rattle.records.specs.Seven.{recordFrom}
-use Rattle.records.proofs.Seven.{record-kind, remark-kind, holds}
-use Rattle.records.proofs.Scanning.{Rest, record-there, at-record, at-remark, at-bad, at-end}
+use Rattle.words.specs.declared.Word.the-variants as W
+use Rattle.words.specs.Words.{wordOf}
+use Rattle.seven.specs.Seven.{sixBehind, recordOf}
+use Rattle.records.proofs.Seven.{at-word, holds}
+use Rattle.records.proofs.Logs.{remark-at}
+use Rattle.records.proofs.Scanning.{Rest, read, record-there, at-record, at-remark, at-bad, at-end}
 use Rattle.log.specs.Alone.{givenIn, lastAlone, wordsAlone, thirds}
 use Rattle.log.specs.Ensures.{Enough, RunsAlone}
 
@@ -60,20 +64,20 @@ module _ {second : Bool} {d e : MachineData} {s₀ : State} {k₀ : ℕ} {words 
         apart : {X : Type 0} → fault bad ≡ records (g .rest) → X
         apart y = never (cc)
 
-    -- what stands here, by its first word's kind
-    record-here : at < length words → getD words at 0 / 268435456 ≡ 4 → entryAt words at ≡ E.the-variants.Record (recordFrom words at)
-    record-here h kind = go (entryAt words at) refl
+    -- what stands here, by its first word
+    record-here : {p : ℤ} → at < length words → wordOf (getD words at 0) ≡ W.Position p → entryAt words at ≡ E.the-variants.Record (recordOf p (sixBehind words at))
+    record-here {p} h first = go (entryAt words at) refl
       where
-        go : (x : E.Entry) → entryAt words at ≡ x → entryAt words at ≡ E.the-variants.Record (recordFrom words at)
-        go (E.the-variants.Record r) q = q ∙ ap E.the-variants.Record (sym (holds words at r q))
-        go E.the-variants.Remark q = absurd (omega (arith, kind, remark-kind words at q))
+        go : (x : E.Entry) → entryAt words at ≡ x → entryAt words at ≡ E.the-variants.Record (recordOf p (sixBehind words at))
+        go (E.the-variants.Record r) q = q ∙ ap E.the-variants.Record (sym (holds words at r q (at-word words at h first)))
+        go E.the-variants.Remark q = never (cc (at-word words at h first, remark-at words at q))
         go (E.the-variants.Bad bad) q = no-fault h q
 
-    remark-here : at < length words → (getD words at 0 / 268435456 ≡ 4 → ⊥) → entryAt words at ≡ E.the-variants.Remark
+    remark-here : at < length words → ((p : ℤ) → wordOf (getD words at 0) ≡ W.Position p → ⊥) → entryAt words at ≡ E.the-variants.Remark
     remark-here h other = go (entryAt words at) refl
       where
         go : (x : E.Entry) → entryAt words at ≡ x → entryAt words at ≡ E.the-variants.Remark
-        go (E.the-variants.Record r) q = absurd (other (record-kind words at r q))
+        go (E.the-variants.Record r) q = absurd (other (r .a .position) (sym (at-word words at h refl) ∙ read words at r q .position-a))
         go E.the-variants.Remark q = q
         go (E.the-variants.Bad bad) q = no-fault h q
 
@@ -85,13 +89,14 @@ module _ {second : Bool} {d e : MachineData} {s₀ : State} {k₀ : ℕ} {words 
         go (fault bad) l y = never (cc)
 
     -- a record stands here whole, with room for its word
-    pub there : at < length words → getD words at 0 / 268435456 ≡ 4 → (at + 7 ≤ length words) × (place < length out)
-    there h kind =
-        let q = record-here h kind in
-        let n = next-record (recordFrom words at) h q in
-        (record-there words at (recordFrom words at) q, omega (arith, g .count, g .room, ap length (n .1)))
+    pub there : {p : ℤ} → at < length words → wordOf (getD words at 0) ≡ W.Position p → (at + 7 ≤ length words) × (place < length out)
+    there {p} h first =
+        let r = recordOf p (sixBehind words at) in
+        let q = record-here h first in
+        let n = next-record r h q in
+        (record-there words at r q, omega (arith, g .count, g .room, ap length (n .1)))
 
-    pub remarked : at < length words → (getD words at 0 / 268435456 ≡ 4 → ⊥) → Going second d e s₀ k₀ words out₀ out s k (at + 1) place
+    pub remarked : at < length words → ((p : ℤ) → wordOf (getD words at 0) ≡ W.Position p → ⊥) → Going second d e s₀ k₀ words out₀ out s k (at + 1) place
     remarked h other =
         record {
           all = g .all;
@@ -105,12 +110,12 @@ module _ {second : Bool} {d e : MachineData} {s₀ : State} {k₀ : ℕ} {words 
         }
 
     -- t is the cycle as the machine has it, and the output has its word
-    pub stepped : {given : Given} {t : Advanced} {k′ : ℕ} → at < length words → getD words at 0 / 268435456 ≡ 4 → given ≡ givenIn second e k (recordFrom words at) → AdvanceEnsures d s given t →
+    pub stepped : {p : ℤ} {given : Given} {t : Advanced} {k′ : ℕ} → at < length words → wordOf (getD words at 0) ≡ W.Position p → given ≡ givenIn second e k (recordOf p (sixBehind words at)) → AdvanceEnsures d s given t →
         k′ ≡ nextK (e .count) k → Going second d e s₀ k₀ words out₀ (set out place (t .word)) (t .state) k′ (at + 7) (place + 3)
     unfolding lastAlone wordsAlone thirds
-    stepped {t = t} h kind is cycle rises =
-        let r = recordFrom words at in
-        let n = next-record r h (record-here h kind) in
+    stepped {p} {t = t} h first is cycle rises =
+        let r = recordOf p (sixBehind words at) in
+        let n = next-record r h (record-here h first) in
         let state : t .state ≡ next d s (givenIn second e k r) = cycle .state ∙ ap (next d s) is in
         let shown : t .word ≡ word d s (givenIn second e k r) = cycle .word-is ∙ ap (word d s) is in
         record {

@@ -5,7 +5,7 @@ use mathlib.Core.List.{List, [], _∷_}
 use lib.ListN.{getD, set}
 use Rattle.machine_data.specs.declared.MachineData.{MachineData}
 use Rattle.inputs.specs.declared.Reading.{Reading}
-use Rattle.records.specs.declared.CycleRecord.{CycleRecord}
+use Rattle.seven.specs.declared.CycleRecord.{CycleRecord}
 use Rattle.state.specs.declared.State.{State}
 use Rattle.state.specs.declared.Given.{Given}
 use Rattle.report.specs.Report.{nextK}

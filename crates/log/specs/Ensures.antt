@@ -7,7 +7,7 @@ use lib.ListN.{length}
 use Rattle.machine_data.specs.declared.MachineData.{MachineData}
 use Rattle.channel.specs.declared.Channel.{Channel}
 use Rattle.state.specs.declared.State.{State}
-use Rattle.records.specs.declared.CycleRecord.{CycleRecord}
+use Rattle.seven.specs.declared.CycleRecord.{CycleRecord}
 use Rattle.records.specs.Records.{records, logOf}
 use Rattle.log.specs.declared.LogRun.{LogRun}
 use Rattle.log.specs.declared.LogAnswer.the-variants.{Refused}

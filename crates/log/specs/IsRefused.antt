@@ -2,7 +2,7 @@
 use Prim.Native.Nat.{ℕ, _*_, _≤_, _<_}
 use mathlib.Core.List.{List}
 use lib.ListN.{length}
-use Rattle.records.specs.declared.CycleRecord.{CycleRecord}
+use Rattle.seven.specs.declared.CycleRecord.{CycleRecord}
 use Rattle.records.specs.IsLog.{IsLog}
 use Rattle.records.specs.IsFault.{FaultAt}
 

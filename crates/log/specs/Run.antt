@@ -6,7 +6,7 @@ use lib.ListN.{length, drop}
 use Rattle.machine_data.specs.declared.MachineData.{MachineData}
 use lib.Dec.{ltb}
 use Rattle.inputs.specs.declared.Reading.{Reading}
-use Rattle.records.specs.declared.CycleRecord.{CycleRecord}
+use Rattle.seven.specs.declared.CycleRecord.{CycleRecord}
 use Rattle.records.specs.Records.{LogRead, records, fault, logOf}
 use Rattle.state.specs.declared.State.{State}
 use Rattle.state.specs.declared.Given.{Given}

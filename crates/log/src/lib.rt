@@ -4,15 +4,16 @@ ghost use mathlib.Core.Bool.{cond};
 ghost use Prim.Native.Nat.{_+_, _≤_, _*_};
 ghost use lib.ListN.{length};
 ghost use Rattle.machine_data.specs.Data.{lent};
-ghost use Rattle.records.specs.Seven.{recordFrom};
 ghost use Rattle.log.specs.Alone.{readingIn, givenIn, withDevices};
 ghost use Rattle.log.specs.Ensures.{LogEnsures, refusedRun, Enough, Sound, RunsAlone};
 use channel::Channel;
 use inputs::Reading;
 use machine_data::Values;
 use records::Scan;
+use seven::CycleRecord;
 use state::Given;
 use state::State;
+use words::Word;
 
 pub enum LogAnswer {
     // how many cycles were run
@@ -28,27 +29,23 @@ pub struct LogRun {
     pub b: Channel,
 }
 
-// A channel's reading in the record at a place where one stands: A's is the first of two, B's the second.
-fn reading_at(words: &[u32], at: usize, second: bool) -> Reading
-    requires { ⌜ at + 7 ≤ length (now words) ⌝ }
-    ensures { λ r. ⌜ r ≡ readingIn second (recordFrom (now (words .entry)) at) ⌝ }
+// A channel's reading in a record: A's is the first of two, B's the second.
+fn reading_in(recorded: CycleRecord, second: bool) -> Reading
+    ensures { λ r. ⌜ r ≡ readingIn second recorded ⌝ }
 {
-    if second {
-        records::reading_of(words[at + 3], words[at + 4], words[at + 5])
-    } else {
-        records::reading_of(words[at], words[at + 1], words[at + 2])
-    }
+    let a = recorded.a;
+    let b = recorded.b;
+    if second { b } else { a }
 }
 
-// What that record gives a channel: its own reading, and the other's report by the other's k.
-fn given_at(words: &[u32], at: usize, second: bool, other: &Values, count: usize, k: u8) -> Given
-    requires { ⌜ at + 7 ≤ length (now words) ⌝ }
-    ensures { λ r. ⌜ r ≡ givenIn second (lent (now (other .entry)) count) k (recordFrom (now (words .entry)) at) ⌝ }
+// What a record gives a channel: its own reading, and the other's report by the other's k.
+fn given_by(recorded: CycleRecord, second: bool, other: &Values, count: usize, k: u8) -> Given
+    ensures { λ r. ⌜ r ≡ givenIn second (lent (now (other .entry)) count) k recorded ⌝ }
 {
     Given {
-        reading: reading_at(words, at, second),
-        acknowledged: words[at + 6] % 2 == 1,
-        report: report::report_of(other, count, k, reading_at(words, at, !second)),
+        reading: reading_in(recorded, second),
+        acknowledged: recorded.acknowledged,
+        report: report::report_of(other, count, k, reading_in(recorded, !second)),
     }
 }
 
@@ -80,18 +77,19 @@ fn run_channel(
     let mut at = 0usize;
     let mut next = first_place(second);
     while at < words.len() {
-        if records::begins_record(words[at]) {
-            let given = given_at(words, at, second, other, count, reported);
-            let after = channel::advance(&list.values, list.count, state, given);
-            out[next] = after.word;
-            let reached = after.state;
-            state = reached;
-            reported = report::next_k(count, reported);
-            at += 7;
-            next += 3;
-        } else {
+        let Word::Position(position) = words::word_of(words[at]) else {
             at += 1;
-        }
+            continue;
+        };
+        let recorded = seven::record_of(position, seven::six_behind(words, at));
+        let given = given_by(recorded, second, other, count, reported);
+        let after = channel::advance(&list.values, list.count, state, given);
+        out[next] = after.word;
+        let reached = after.state;
+        state = reached;
+        reported = report::next_k(count, reported);
+        at += 7;
+        next += 3;
     }
     state
 }

@@ -11,7 +11,7 @@ use Rattle.words.specs.Breaks.{Sort, a-position, a-lower, an-upper, an-end, a-r
 use Rattle.words.proofs.Cases.{is-remark}
 use Rattle.words.proofs.Breaking.{Choice, met, missed, otherwise, onward, by-position, by-lower, by-upper, by-end, by-remark, Broken, never-broken, broken-here, broken-later}
 use Rattle.inputs.specs.declared.Reading.{Reading}
-use Rattle.records.specs.declared.CycleRecord.{CycleRecord}
+use Rattle.seven.specs.declared.CycleRecord.{CycleRecord}
 use Rattle.records.specs.declared.InputsRead as I
 use Rattle.records.specs.declared.Entry as E
 use Rattle.records.specs.Records.{inputsAt, onInputs, reading, endingAt, otherAt, entryAt}

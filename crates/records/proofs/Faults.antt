@@ -9,7 +9,7 @@ use lib.Seq.{drop-append-seam}
 use Rattle.words.specs.Breaks.{a-remark, IsA, Breaks}
 use Rattle.words.proofs.Front.{present}
 use Rattle.words.proofs.Breaks.{lacked}
-use Rattle.records.specs.declared.CycleRecord.{CycleRecord}
+use Rattle.seven.specs.declared.CycleRecord.{CycleRecord}
 use Rattle.records.specs.Records.{fault, before, logOf}
 use Rattle.records.specs.IsFault.{aRecord, FaultAt, fault-at}
 use Rattle.records.proofs.Scanning.{at-bad}

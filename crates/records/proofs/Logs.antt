@@ -20,7 +20,7 @@ use Rattle.words.proofs.Breaks.{lacks}
 use Rattle.words.proofs.Front.{present, behind, front-reads, front-is}
 use Rattle.words.proofs.Cases.{is-position, is-end}
 use Rattle.inputs.specs.declared.Reading.{Reading}
-use Rattle.records.specs.declared.CycleRecord.{CycleRecord}
+use Rattle.seven.specs.declared.CycleRecord.{CycleRecord}
 use Rattle.records.specs.declared.InputsRead as I
 use Rattle.records.specs.declared.Entry as E
 use Rattle.records.specs.Records.{inputsAt, onInputs, endingAt, otherAt, betweenOf, entryAt, LogRead, records, fault, before, logOf}

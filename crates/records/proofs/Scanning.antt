@@ -10,7 +10,7 @@ use Rattle.words.specs.declared.Word.{Word}
 use Rattle.words.specs.declared.Word.the-variants as W
 use Rattle.words.specs.Words.{wordAt}
 use Rattle.words.proofs.Cases.{is-position, is-end, there}
-use Rattle.records.specs.declared.CycleRecord.{CycleRecord}
+use Rattle.seven.specs.declared.CycleRecord.{CycleRecord}
 use Rattle.records.specs.declared.InputsRead as I
 use Rattle.records.specs.declared.Entry as E
 use Rattle.records.specs.declared.Scan as S

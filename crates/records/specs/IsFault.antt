@@ -3,7 +3,7 @@ use Prim.Native.Nat.{ℕ, _+_}
 use mathlib.Core.List.{List, [], _∷_, _++_}
 use lib.ListN.{length}
 use Rattle.words.specs.Breaks.{Sort, a-position, a-lower, an-upper, an-end, a-remark, IsA, Breaks}
-use Rattle.records.specs.declared.CycleRecord.{CycleRecord}
+use Rattle.seven.specs.declared.CycleRecord.{CycleRecord}
 use Rattle.records.specs.IsLog.{IsLog}
 
 -- "kinds 4, 5, 6 of A, the same of B, then 7"

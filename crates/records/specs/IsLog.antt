@@ -6,7 +6,7 @@ use lib.IntN.{ℤ}
 use Rattle.words.specs.declared.Word.the-variants.{Position, Lower, Upper, End, Remark}
 use Rattle.words.specs.IsWord.{IsWord}
 use Rattle.inputs.specs.declared.Reading.{Reading}
-use Rattle.records.specs.declared.CycleRecord.{CycleRecord}
+use Rattle.seven.specs.declared.CycleRecord.{CycleRecord}
 
 -- "kinds 4, 5, 6": three words and the reading they hold
 pub data IsReading : Reading → ℕ → ℕ → ℕ → Type 0 where

@@ -1,4 +1,3 @@
 pub mod Records
 pub mod IsLog
-pub mod Seven
 pub mod IsFault

@@ -9,7 +9,7 @@ use Rattle.words.specs.declared.Word.{Word}
 use Rattle.words.specs.Words.{wordAt}
 use Rattle.words.specs.Cases.{ifPosition, ifLower, ifUpper, ifEnd, ifRemark}
 use Rattle.inputs.specs.declared.Reading.{Reading}
-use Rattle.records.specs.declared.CycleRecord.{CycleRecord}
+use Rattle.seven.specs.declared.CycleRecord.{CycleRecord}
 use Rattle.records.specs.declared.InputsRead as I
 use Rattle.records.specs.declared.Entry as E
 use Rattle.records.specs.declared.Scan as S

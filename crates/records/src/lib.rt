@@ -1,18 +1,11 @@
 // A log as cycle records, with remarks between them.
 ghost use mathlib.Core.Path.{_≡_};
-ghost use Prim.Native.Nat.{_≤_};
-ghost use lib.ListN.{length};
+ghost use Rattle.words.specs.declared.Word.the-variants.{Position};
+ghost use Rattle.words.specs.Words.{wordAt};
 ghost use Rattle.records.specs.Records.{inputsAt, endingAt, otherAt, betweenOf, entryAt, scanOf};
-ghost use Rattle.records.specs.Seven.{beginsRecord, readingOf, isReading, isRecord, markOf};
 use inputs::Reading;
+use seven::CycleRecord;
 use words::Word;
-
-// What a record gives both channels.
-pub struct CycleRecord {
-    pub a: Reading,
-    pub b: Reading,
-    pub acknowledged: bool,
-}
 
 // The input word from its two halves, or the place of a missing or wrong word.
 enum InputsRead {
@@ -23,13 +16,6 @@ enum InputsRead {
 // What stands at a place of a log: a record of seven words, a remark, or the place of a missing or wrong word.
 pub enum Entry {
     Record(CycleRecord),
-    Remark,
-    Bad(usize),
-}
-
-// The kind of an entry, or the place of a missing or wrong word.
-enum Mark {
-    Record,
     Remark,
     Bad(usize),
 }
@@ -86,7 +72,18 @@ fn between(word: Word, at: usize) -> Entry
     }
 }
 
-// The record or the remark at a place.
+// A record that begins with a position, word by word: for the place of the word that is missing or wrong.
+fn by_words(words: &[u32], at: usize, position: i32) -> Entry
+    requires { ⌜ wordAt (now words) at ≡ Position position ⌝ }
+    ensures { λ r. ⌜ r ≡ entryAt (now (words .entry)) at ⌝ }
+{
+    match inputs_at(words, at + 1) {
+        InputsRead::Inputs(inputs) => other_at(words, at + 3, Reading { position, inputs }),
+        InputsRead::Bad(place) => Entry::Bad(place),
+    }
+}
+
+// The record or the remark at a place. A sound record's other six words are looked at together.
 pub fn entry_at(words: &[u32], at: usize) -> Entry
     ensures { λ r. ⌜ r ≡ entryAt (now (words .entry)) at ⌝ }
 {
@@ -94,84 +91,11 @@ pub fn entry_at(words: &[u32], at: usize) -> Entry
     let Word::Position(position) = first else {
         return between(first, at);
     };
-    match inputs_at(words, at + 1) {
-        InputsRead::Inputs(inputs) => other_at(words, at + 3, Reading { position, inputs }),
-        InputsRead::Bad(place) => Entry::Bad(place),
+    let six = seven::six_behind(words, at);
+    if seven::are_six(six) {
+        return Entry::Record(seven::record_of(position, six));
     }
-}
-
-// Whether a word begins a record; in a sound log the others are remarks, which go another way.
-pub fn begins_record(first: u32) -> bool
-    ensures { λ r. ⌜ r ≡ beginsRecord first ⌝ }
-{
-    let Word::Position(_) = words::word_of(first) else {
-        return false;
-    };
-    true
-}
-
-// What three words of a record hold: a position, and the two halves of an input word.
-pub fn reading_of(position: u32, lower: u32, upper: u32) -> Reading
-    ensures { λ r. ⌜ r ≡ readingOf position lower upper ⌝ }
-{
-    Reading {
-        position: words::position_of(position),
-        inputs: upper % 65536 * 65536 + lower % 65536,
-    }
-}
-
-// Whether three words are of the kinds of a record's part, with their unused bits 0.
-fn is_reading(position: u32, lower: u32, upper: u32) -> bool
-    ensures { λ r. ⌜ r ≡ isReading position lower upper ⌝ }
-{
-    if position / 268435456 != 4 {
-        return false;
-    }
-    if lower / 65536 != 20480 {
-        return false;
-    }
-    upper / 65536 == 24576
-}
-
-// Whether the words from a place on are a record, by their kinds and unused bits.
-fn is_record(words: &[u32], at: usize) -> bool
-    requires { ⌜ at ≤ length (now words) ⌝ }
-    ensures { λ r. ⌜ r ≡ isRecord (now (words .entry)) at ⌝ }
-{
-    if words.len() - at < 7 {
-        return false;
-    }
-    if is_reading(words[at], words[at + 1], words[at + 2]) {
-        if is_reading(words[at + 3], words[at + 4], words[at + 5]) {
-            words[at + 6] / 2 == 939524096
-        } else {
-            false
-        }
-    } else {
-        false
-    }
-}
-
-fn mark_of(entry: Entry) -> Mark
-    ensures { λ r. ⌜ r ≡ markOf entry ⌝ }
-{
-    match entry {
-        Entry::Record(_) => Mark::Record,
-        Entry::Remark => Mark::Remark,
-        Entry::Bad(place) => Mark::Bad(place),
-    }
-}
-
-// The kind of the entry at a place: a record is found without taking its words apart.
-fn mark_at(words: &[u32], at: usize) -> Mark
-    requires { ⌜ at ≤ length (now words) ⌝ }
-    ensures { λ r. ⌜ r ≡ markOf (entryAt (now (words .entry)) at) ⌝ }
-{
-    if is_record(words, at) {
-        Mark::Record
-    } else {
-        mark_of(entry_at(words, at))
-    }
+    by_words(words, at, position)
 }
 
 // The cycles of a whole log.
@@ -181,16 +105,16 @@ pub fn scan_log(words: &[u32]) -> Scan
     let mut at = 0usize;
     let mut cycles = 0usize;
     while at < words.len() {
-        let mark = mark_at(words, at);
-        match mark {
-            Mark::Record => {
+        let entry = entry_at(words, at);
+        match entry {
+            Entry::Record(_) => {
                 at += 7;
                 cycles += 1;
             }
-            Mark::Remark => {
+            Entry::Remark => {
                 at += 1;
             }
-            Mark::Bad(place) => {
+            Entry::Bad(place) => {
                 return Scan::Bad(place);
             }
         }

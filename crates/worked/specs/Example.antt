@@ -3,7 +3,7 @@ use Prim.Native.Nat.{ℕ}
 use mathlib.Core.List.{List, [], _∷_}
 use lib.IntN.{pos}
 use Rattle.machine_data.specs.declared.MachineData.{MachineData}
-use Rattle.records.specs.declared.CycleRecord.{CycleRecord}
+use Rattle.seven.specs.declared.CycleRecord.{CycleRecord}
 use Rattle.worked.specs.Runs.{is, listOf, alike}
 
 -- "both lists 0=12, 1=1, 2=10, 3=2000, 7=3, 12 and 14=100,000,000, 29=2, 32=1, else lowest"

@@ -13,7 +13,7 @@ use Rattle.datum.specs.declared.Datum.the-variants.{Single}
 use Rattle.datum.specs.declared.Units.{Units}
 use Rattle.datum.specs.declared.Units.the-variants.{Are, Refused}
 use Rattle.datum.specs.Datum.{unitsOf}
-use Rattle.records.specs.declared.CycleRecord.{CycleRecord}
+use Rattle.seven.specs.declared.CycleRecord.{CycleRecord}
 use Rattle.selection.specs.declared.Selection.{Selection}
 use Rattle.selection.specs.declared.Selection.the-variants.{Nothing, Sbh}
 use Rattle.stop.specs.Stop.{levelOf}

@@ -6,7 +6,7 @@ use lib.ListN.{set}
 use lib.IntN.{ℤ, pos}
 use Rattle.machine_data.specs.declared.MachineData.{MachineData}
 use Rattle.machine_data.specs.Table.{dataCount, lowOf}
-use Rattle.records.specs.declared.CycleRecord.{CycleRecord}
+use Rattle.seven.specs.declared.CycleRecord.{CycleRecord}
 use Rattle.records.specs.Records.{reading}
 use Rattle.state.specs.declared.Given.{Given}
 use Rattle.demand_3.specs.Calls.{as-a}

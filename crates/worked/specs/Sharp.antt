@@ -7,7 +7,7 @@ use lib.IntN.{pos}
 use lib.ListN.{replicate}
 use Rattle.machine_data.specs.declared.MachineData.{MachineData}
 use Rattle.machine_data.specs.Data.{numberOf}
-use Rattle.records.specs.declared.CycleRecord.{CycleRecord}
+use Rattle.seven.specs.declared.CycleRecord.{CycleRecord}
 use Rattle.records.specs.Records.{reading}
 use Rattle.selection.specs.declared.Selection.{Selection}
 use Rattle.selection.specs.declared.Selection.the-variants.{Nothing, Sbh}

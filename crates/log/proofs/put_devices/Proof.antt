@@ -1,3 +1,4 @@
+-- `log::put_devices` meets its contract. Assumes nothing.
 use mathlib.Core.Path.{_≡_, refl, sym, ap, _∙_}
 use Prim.Native.Nat.{_+_, _-_, _*_, _≤_}
 use native.Mathlib.Omega.{arith}
@@ -14,59 +15,45 @@ Inv-loop out₀ cycles left₀ at₀ out left at = (at + 3 * left ≤ length out
 abbrev μ-loop : tie.MeasureT-loop
 μ-loop out₀ cycles left₀ at₀ out left at = left
 
--- src/lib.rt:95:5
 loop-holds : tie.Need-loop-holds Inv-loop μ-loop
 loop-holds c = (omega (arith, c .before .pre), refl, refl)
 
--- src/lib.rt:96:43
 mul-device-word : tie.Need-mul-device-word Inv-loop μ-loop
 mul-device-word c = search needs
 
--- src/lib.rt:96:43
 slice-read-device-word : tie.Need-slice-read-device-word Inv-loop μ-loop
 slice-read-device-word c = omega (arith, c .before .before .loop .inv .0, c .before .loop-test .taken)
 
--- src/lib.rt:96:56
 add-device-word : tie.Need-add-device-word Inv-loop μ-loop
 add-device-word c = search needs
 
--- src/lib.rt:96:52
 mul-device-word-2 : tie.Need-mul-device-word-2 Inv-loop μ-loop
 mul-device-word-2 c = search needs
 
--- src/lib.rt:96:52
 slice-read-device-word-2 : tie.Need-slice-read-device-word-2 Inv-loop μ-loop
 slice-read-device-word-2 c = omega (arith, c .before .before .before .loop .inv .0, c .before .before .loop-test .taken)
 
--- src/lib.rt:96:23
 device-word-requires : tie.Need-device-word-requires Inv-loop μ-loop
 device-word-requires c κs = search needs
 
--- src/lib.rt:96:13
 add-out : tie.Need-add-out Inv-loop μ-loop
 add-out c = search needs
 
--- src/lib.rt:96:9
 mul-out : tie.Need-mul-out Inv-loop μ-loop
 mul-out c = search needs
 
--- src/lib.rt:96:9
 slice-write-out : tie.Need-slice-write-out Inv-loop μ-loop
 slice-write-out c = omega (arith, c .before .before .before .before .loop .inv .0, c .before .before .before .loop-test .taken)
 
--- src/lib.rt:97:9
 add-at : tie.Need-add-at Inv-loop μ-loop
 add-at c = search needs
 
--- src/lib.rt:98:9
 sub-left : tie.Need-sub-left Inv-loop μ-loop
 sub-left c = search needs
 
--- src/lib.rt:95:5
 loop-less : tie.Need-loop-less Inv-loop μ-loop
 loop-less c = search needs
 
--- src/lib.rt:95:5
 loop-again : tie.Need-loop-again Inv-loop μ-loop
 loop-again c = let l = c .before .before .before .before .loop in (
   simp length-set (omega (arith, l .inv .0, c .before .before .before .loop-test .taken)),
@@ -74,11 +61,9 @@ loop-again c = let l = c .before .before .before .before .loop in (
   ap (λ w. withDevices (l .at + 3) (l .left - 1) (set (l .out) (l .at + 2) w)) (c .device-word .ensures) ∙ sym (device-put (l .at) (l .left) (l .out) (c .before .before .before .loop-test .taken)) ∙ l .inv .2,
 )
 
--- src/lib.rt:89:1
 same-length : tie.Need-same-length Inv-loop μ-loop
 same-length c = c .before .loop .inv .1
 
--- src/lib.rt:89:1
 returns : tie.Need-returns Inv-loop μ-loop
 returns c = let l = c .before .loop in sym (no-more (l .at) (l .left) (l .out) (c .loop-test .left)) ∙ l .inv .2
 

@@ -1,11 +1,14 @@
 -- `records::entry_at` meets its contract. Assumes nothing.
+use mir.Syntax.{w32}
+use mir.Val.{toZ, ofZ}
+use Rattle.words.specs.declared.Word.the-variants.{Position}
 use mathlib.Core.Path.{sym, ap, _∙_}
-use Prim.Native.Nat.{_+_}
-use native.Mathlib.Omega.{arith}
 use denote.Ref.{now}
 use lib.IntN.{ℤ}
-use Rattle.records.specs.Records.{otherAt, reading}
-use Rattle.records.proofs.Parts.{position-there, inputs-there, no-record, entry-is}
+use Rattle.seven.specs.Seven.{areSix, recordOf}
+use Rattle.records.specs.declared.Entry.the-variants.{Record}
+use Rattle.records.proofs.Parts.{no-record}
+use Rattle.records.proofs.Seven.{whole-record}
 use borrow.Author.Needs.{needs}
 use Rattle.records.proofs.entry_at.Statement.{statement}
 use Rattle.records.proofs.entry_at.Tie as tie
@@ -20,34 +23,27 @@ between-requires : tie.Need-between-requires
 between-requires c κs = search needs
 
 returns : tie.Need-returns
-returns c = let s = c .before .before .before .before in c .between .ensures ∙ no-record (now (s .args .words)) (s .args .at) (c .before .before .word-at .ensures) (c .before .match .keys2)
+returns c = let a = c .before .before .before .before .args in c .between .ensures ∙ no-record (now (a .words)) (a .at) (c .before .before .word-at .ensures) (c .before .match .keys2)
 
-add-inputs-at : tie.Need-add-inputs-at
-add-inputs-at c = let s = c .before .before .before .before .before in omega (arith, position-there (now (s .args .words)) (s .args .at) (sym (c .before .before .before .word-at .ensures) ∙ c .before .first .given .1), s .good)
+six-behind-requires : tie.Need-six-behind-requires
+six-behind-requires c κs = search needs
 
-inputs-at-requires : tie.Need-inputs-at-requires
-inputs-at-requires c κs = search needs
+are-six-requires : tie.Need-are-six-requires
+are-six-requires c κs = search needs
 
-enum-known-inputs : tie.Need-enum-known-inputs
-enum-known-inputs c = search needs
-
-add-other-at : tie.Need-add-other-at
-add-other-at c = let s = c .before .before .before .before .before .before .before .before .before in omega (arith, inputs-there (now (s .args .words)) (s .args .at + 1) _ (sym (c .before .before .before .inputs-at .ensures) ∙ c .before .inputs .given .1), s .good)
-
-other-at-requires : tie.Need-other-at-requires
-other-at-requires c κs = search needs
-
-enum-known-place : tie.Need-enum-known-place
-enum-known-place c = search needs
+record-of-requires : tie.Need-record-of-requires
+record-of-requires c κs = search needs
 
 returns-2 : tie.Need-returns-2
-returns-2 c = let s = c .before .before .before .before .before .before .before .before .before .before in
-    c .other-at .ensures
-    ∙ ap (λ (z : ℤ). otherAt (now (s .args .words)) (s .args .at + 3) (reading z (c .before .before .inputs .given .0 .0))) (search needs)
-    ∙ entry-is (now (s .args .words)) (s .args .at) (sym (c .before .before .before .before .before .before .before .before .word-at .ensures) ∙ c .before .before .before .before .before .before .first .given .1) (sym (c .before .before .before .before .inputs-at .ensures) ∙ c .before .before .inputs .given .1)
+returns-2 c = let a = c .before .before .before .before .before .before .before .before .before .args in
+    ap Record (c .record-of .ensures ∙ ap (λ (z : ℤ). recordOf z (c .before .before .before .six-behind .result)) {y = c .before .before .before .before .before .first .given .0 .0} (search needs) ∙ ap (recordOf (c .before .before .before .before .before .first .given .0 .0)) (c .before .before .before .six-behind .ensures))
+    ∙ whole-record (now (a .words)) (a .at) (sym (c .before .before .before .before .before .before .before .word-at .ensures) ∙ c .before .before .before .before .before .first .given .1) (sym (ap areSix (c .before .before .before .six-behind .ensures)) ∙ sym (c .before .before .are-six .ensures) ∙ c .before .if1 .taken)
+
+by-words-requires : tie.Need-by-words-requires
+by-words-requires c κs = let p = c .before .before .before .before .first .given .0 .0 in sym (c .before .before .before .before .before .before .word-at .ensures) ∙ c .before .before .before .before .first .given .1 ∙ sym (ap Position {x = toZ w32 (ofZ w32 p)} {y = p} (search needs))
 
 returns-3 : tie.Need-returns-3
-returns-3 c = let s = c .before .before .before .before .before .before .before .before .before in entry-is (now (s .args .words)) (s .args .at) (sym (c .before .before .before .before .before .before .before .word-at .ensures) ∙ c .before .before .before .before .before .first .given .1) (sym (c .before .before .before .inputs-at .ensures) ∙ c .before .place .given .1)
+returns-3 c = search needs
 
 pub entry-at-spec : {M : Type 1} → statement M
 entry-at-spec =
@@ -57,11 +53,9 @@ entry-at-spec =
     enum-known-first
     between-requires
     returns
-    add-inputs-at
-    inputs-at-requires
-    enum-known-inputs
-    add-other-at
-    other-at-requires
-    enum-known-place
+    six-behind-requires
+    are-six-requires
+    record-of-requires
     returns-2
+    by-words-requires
     returns-3)

@@ -46,7 +46,7 @@ wordsFrom s out i (suc n) = wordsAt s out i ∷ wordsFrom s out (suc i) n
 -- "The number of cycles" comes back
 abbrev pub answeredWords : Side → LogAnswer → List ℕ → List Words
 answeredWords s (Accepted n) out = wordsFrom s out 0 n
-answeredWords s (Refused number place) out = []
+answeredWords s (Refused why) out = []
 
 -- a call with the working channel c is answered: the channel that it returns or leaves, and the words that it gives. What is asked
 -- of the answer is what the contracts of the functions ensure, and no more.

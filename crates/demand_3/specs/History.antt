@@ -35,7 +35,7 @@ recordsIn (fault place) = []
 
 abbrev pub recordsRun : LogAnswer → LogRead → List CycleRecord
 recordsRun (Accepted n) l = recordsIn l
-recordsRun (Refused number place) l = []
+recordsRun (Refused why) l = []
 
 -- the cycles of a call; a log's answer is the same whatever channels it is given with (proofs/OfLog.antt), and is asked here with the other one twice
 unfoldable pub cyclesOf : Call → List Given

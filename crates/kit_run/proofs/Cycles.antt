@@ -8,7 +8,7 @@ use lib.ListN.{length}
 use Rattle.machine_data.specs.declared.MachineData.{MachineData}
 use lib.Dec.{ltb}
 use borrow.Author.Tests.{ltb-true}
-use Rattle.words.proofs.Absurd.{never}
+use Rattle.laws.proofs.Never.{never}
 use Rattle.seven.specs.declared.CycleRecord.{CycleRecord}
 use Rattle.records.specs.declared.Entry as E
 use Rattle.records.specs.Records.{entryAt, LogRead, records, fault, before, onEntry, logFrom, logOf}

@@ -7,12 +7,12 @@ use kit::KitAnswer;
 use log::LogAnswer;
 use machine_data::MachineData;
 use refusal::Part;
+use refusal::Refusal;
 
 pub enum KitRun {
     // how many cycles were run
     Ran(usize),
-    // number, place or words wanted, and the part in which places are counted
-    Refused(u32, usize, Part),
+    Refused(Refusal, Part),
 }
 
 // The log of a kit whose lists are accepted.
@@ -24,7 +24,7 @@ fn run_behind(a: MachineData, b: MachineData, words: &[u32], out: &mut [u32]) ->
     let answer = ran.answer;
     match answer {
         LogAnswer::Accepted(cycles) => KitRun::Ran(cycles),
-        LogAnswer::Refused(number, place) => KitRun::Refused(number, place, Part::Log),
+        LogAnswer::Refused(why) => KitRun::Refused(why, Part::Log),
     }
 }
 
@@ -39,6 +39,6 @@ pub fn run_kit(words: &[u32], out: &mut [u32]) -> KitRun
     let b = read.b;
     match answer {
         KitAnswer::Accepted(at) => run_behind(a, b, &words[at..], out),
-        KitAnswer::Refused(why, part) => KitRun::Refused(why.number(), why.place(), part),
+        KitAnswer::Refused(why, part) => KitRun::Refused(why, part),
     }
 }

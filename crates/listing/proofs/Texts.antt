@@ -1,6 +1,6 @@
 -- The text of a kit, by its size, its words and its run. Assumes nothing.
-use mathlib.Core.Path.{_≡_, refl, sym, ap, _∙_}
-use mathlib.Core.Bool.{Bool, true, false, _&&_, true≢false}
+use mathlib.Core.Path.{_≡_, sym, ap, _∙_}
+use mathlib.Core.Bool.{Bool, true, false}
 use mathlib.Core.List.{List}
 use Prim.Native.Nat.{ℕ, _*_, _/_, _%_, _≤_}
 use native.Mathlib.Omega.{arith}
@@ -8,12 +8,14 @@ use lib.ListN.{length, take}
 use lib.Seq.{length-take-le}
 use lib.Dec.{leb, eqb}
 use borrow.Author.Tests.{leb-true, eqb-true}
+use Rattle.laws.proofs.Bools.{both}
 use Rattle.kit_bytes.specs.KitBytes.{wholeWords, wordsOf, overlaid}
 use Rattle.kit_bytes.proofs.Words.{words-length, overlaid-all}
-use Rattle.lines.specs.Lines.{refusalLine}
+use Rattle.refusal.specs.declared.Refusal.the-variants.{WrongLog}
+use Rattle.refusal.specs.declared.Part.the-variants.{Log}
 use Rattle.kit_run.specs.declared.KitRun as R
 use Rattle.kit_run.specs.KitRun.{kitRan}
-use Rattle.listing.specs.Listing.{ofWords, listed, answerText, cyclesOf, HasCycles, Rooms}
+use Rattle.listing.specs.Listing.{refusedText, ofWords, listed, answerText, cyclesOf, HasCycles, Rooms}
 use Rattle.listing.proofs.Told.{Told, told}
 
 -- ---- the words of a kit's bytes, and their run
@@ -53,10 +55,6 @@ module _ {answer : R.KitRun} (words : List ℕ) (has : HasCycles answer words) {
 
 -- ---- the size of a kit
 
-both : (a b : Bool) → (a && b) ≡ true → (a ≡ true) × (b ≡ true)
-both true b e = (refl, e)
-both false b e = absurd (true≢false (sym e))
-
 module _ (kit : List ℕ) {r : Bool} (asked : r ≡ wholeWords (length kit)) where
   pub whole-size : r ≡ true → (length kit ≤ 65536) × (length kit % 4 ≡ 0)
   whole-size t =
@@ -67,6 +65,6 @@ module _ (kit : List ℕ) {r : Bool} (asked : r ≡ wholeWords (length kit)) whe
   unfolding listed
   listed-whole t = simp (sym asked ∙ t)
 
-  pub listed-odd : r ≡ false → refusalLine 6 0 76 ≡ listed kit
+  pub listed-odd : r ≡ false → refusedText (WrongLog 0) Log ≡ listed kit
   unfolding listed
   listed-odd t = simp (sym asked ∙ t)

@@ -2,7 +2,7 @@
 use Prim.Native.Nat.{ℕ, _*_, _/_, _%_, _≤_}
 use mathlib.Core.Path.{_≡_}
 use mathlib.Core.Bool.{cond}
-use mathlib.Core.List.{List}
+use mathlib.Core.List.{List, [], _∷_}
 use lib.ListN.{length, take, drop}
 use Rattle.machine_data.specs.declared.MachineData.{MachineData}
 use Rattle.kit.specs.declared.KitRead.{KitRead}
@@ -12,6 +12,8 @@ use Rattle.records.specs.Records.{LogRead, records, fault, logOf}
 use Rattle.channel.specs.Cycle.{freshChannel}
 use Rattle.log.specs.Run.{linesOf, bothOf}
 use Rattle.refusal.specs.Refusal.{refusalNumber, refusalPlace}
+use Rattle.refusal.specs.declared.Refusal.{Refusal}
+use Rattle.refusal.specs.declared.Refusal.the-variants.{WrongLog}
 use Rattle.refusal.specs.declared.Part as P
 use Rattle.kit_run.specs.declared.KitRun as R
 use Rattle.kit_bytes.specs.KitBytes.{wholeWords, wordsOf}
@@ -24,14 +26,18 @@ letterOf P.the-variants.ListA = 65
 letterOf P.the-variants.ListB = 66
 letterOf P.the-variants.Log = 76
 
+-- "A refusal prints only one line: `refused`, number, place (both decimal) and A, B or L"
+abbrev pub refusedText : Refusal → P.Part → List ℕ
+refusedText why part = refusalLine (refusalNumber why) (refusalPlace why) (letterOf part)
+
 -- the log's text: "the cycle from 1", or its refusal. A kit's log is never over 16,384 words, and the bench has room for it, so there is no 7
 abbrev pub byLog : MachineData → MachineData → LogRead → List ℕ
 byLog a b (records rs) = linesFrom 1 (linesOf a b (bothOf (freshChannel a) (freshChannel b)) rs)
-byLog a b (fault place) = refusalLine 6 place (letterOf P.the-variants.Log)
+byLog a b (fault place) = refusedText (WrongLog place) P.the-variants.Log
 
 abbrev pub byLists : List ℕ → KitRead → K.KitAnswer → List ℕ
 byLists words r (K.the-variants.Accepted at) = byLog (r .a) (r .b) (logOf (drop at words))
-byLists words r (K.the-variants.Refused why part) = refusalLine (refusalNumber why) (refusalPlace why) (letterOf part)
+byLists words r (K.the-variants.Refused why part) = refusedText why part
 
 -- "It reads a kit (list A, list B, log; .."
 unfoldable pub ofWords : List ℕ → List ℕ
@@ -39,19 +45,24 @@ ofWords words = byLists words (readKit words) (readKit words .answer)
 
 -- "else number 6, place 0, L"
 unfoldable pub listed : List ℕ → List ℕ
-listed bytes = cond (wholeWords (length bytes)) (ofWords (wordsOf bytes)) (refusalLine 6 0 (letterOf P.the-variants.Log))
+listed bytes = cond (wholeWords (length bytes)) (ofWords (wordsOf bytes)) (refusedText (WrongLog 0) P.the-variants.Log)
 
 -- how many cycles a kit's run has; a refused kit has none
 abbrev pub cyclesOf : R.KitRun → ℕ
 cyclesOf (R.the-variants.Ran cycles) = cycles
-cyclesOf (R.the-variants.Refused number place part) = 0
+cyclesOf (R.the-variants.Refused why part) = 0
+
+-- a refusal's number, place and letter; of a kit that was run all 0
+abbrev pub toldOf : R.KitRun → List ℕ
+toldOf (R.the-variants.Ran cycles) = 0 ∷ 0 ∷ 0 ∷ []
+toldOf (R.the-variants.Refused why part) = refusalNumber why ∷ refusalPlace why ∷ letterOf part ∷ []
 
 -- ---- of the private functions
 
 -- the text for a run's answer and the words that it left
 abbrev pub answerText : R.KitRun → List ℕ → List ℕ
 answerText (R.the-variants.Ran cycles) words = runText (take (3 * cycles) words)
-answerText (R.the-variants.Refused number place part) words = refusalLine number place (letterOf part)
+answerText (R.the-variants.Refused why part) words = refusedText why part
 
 -- the run's words are there, and no more than 2,340 cycles
 abbrev pub HasCycles : R.KitRun → List ℕ → Type 0

@@ -1,16 +1,18 @@
 // A kit's bytes listed as the bench's text, in a lent buffer.
 ghost use mathlib.Core.Path.{_≡_};
+ghost use mathlib.Core.List.{_∷_, []};
 ghost use Prim.Native.Nat.{_%_, _≤_};
 ghost use lib.ListN.{length};
 ghost use Rattle.numerals.specs.Written.{written};
 ghost use Rattle.kit_bytes.specs.KitBytes.{wordsOf};
-ghost use Rattle.listing.specs.Listing.{letterOf, ofWords, listed, answerText, HasCycles, Rooms, cyclesOf};
+ghost use Rattle.listing.specs.Listing.{letterOf, refusedText, ofWords, listed, answerText, HasCycles, Rooms, cyclesOf, toldOf};
 ghost use Rattle.kit_run.specs.KitRun.{kitRan};
 use kit_bytes::read_words;
 use kit_bytes::whole_words;
 use kit_run::KitRun;
 use lines::put_refusal;
 use refusal::Part;
+use refusal::Refusal;
 use run_text::put_run;
 
 fn letter(part: Part) -> u8
@@ -23,6 +25,15 @@ fn letter(part: Part) -> u8
     }
 }
 
+// A refusal's line.
+fn put_refused(out: &mut [u8], why: Refusal, part: Part) -> usize
+    ensures { λ r. ⌜ r ≡ length (refusedText why part) ⌝ }
+    ensures { λ _. ⌜ now (out .exit) ≡ written 0 (refusedText why part) (now (out .entry)) ⌝ }
+    ensures { λ r. ⌜ r ≤ 74880 ⌝ }
+{
+    put_refusal(out, why.number(), why.place(), letter(part))
+}
+
 fn put_answer(out: &mut [u8], answer: KitRun, words: &[u32]) -> usize
     requires { ⌜ HasCycles answer (now words) ⌝ }
     ensures { λ r. ⌜ r ≡ length (answerText answer (now (words .entry))) ⌝ }
@@ -31,7 +42,7 @@ fn put_answer(out: &mut [u8], answer: KitRun, words: &[u32]) -> usize
 {
     match answer {
         KitRun::Ran(cycles) => put_run(out, &words[..3 * cycles]),
-        KitRun::Refused(number, place, part) => put_refusal(out, number, place, letter(part)),
+        KitRun::Refused(why, part) => put_refused(out, why, part),
     }
 }
 
@@ -85,7 +96,7 @@ pub extern "C" fn monitor_list_kit(kit: &[u8], out: &mut [u8]) -> usize
     ensures { λ r. ⌜ r ≤ 74880 ⌝ }
 {
     if !whole_words(kit.len()) {
-        return put_refusal(out, 6, 0, b'L');
+        return put_refused(out, Refusal::WrongLog(0), Part::Log);
     }
     if kit.len() <= 10240 {
         list_short(kit, out)
@@ -94,14 +105,28 @@ pub extern "C" fn monitor_list_kit(kit: &[u8], out: &mut [u8]) -> usize
     }
 }
 
-// A kit's words run: the number of cycles, whose words stand at the output's front; 0 where the kit is refused.
+fn tell(told: &mut [u64; 3], number: u32, place: usize, letter: u8)
+    ensures { λ _. ⌜ now (told .exit) ≡ number ∷ place ∷ letter ∷ [] ⌝ }
+{
+    *told = [number as u64, place as u64, letter as u64];
+}
+
+// A kit's words run: the number of cycles, whose words stand at the output's front, and in `told` 0. Where the kit is
+// refused no cycle, and in `told` the refusal's number, its place, and the letter of the part.
 #[no_mangle]
-pub extern "C" fn monitor_run_kit(words: &[u32], out: &mut [u32]) -> usize
+pub extern "C" fn monitor_run_kit(words: &[u32], out: &mut [u32], told: &mut [u64; 3]) -> usize
     ensures { λ r. ⌜ r ≡ cyclesOf (kitRan (now (words .entry)) (now (out .entry)) .answer) ⌝ }
     ensures { λ _. ⌜ now (out .exit) ≡ kitRan (now (words .entry)) (now (out .entry)) .out ⌝ }
+    ensures { λ _. ⌜ now (told .exit) ≡ toldOf (kitRan (now (words .entry)) (now (out .entry)) .answer) ⌝ }
 {
     match kit_run::run_kit(words, out) {
-        KitRun::Ran(cycles) => cycles,
-        KitRun::Refused(_, _, _) => 0,
+        KitRun::Ran(cycles) => {
+            tell(told, 0, 0, 0);
+            cycles
+        }
+        KitRun::Refused(why, part) => {
+            tell(told, why.number(), why.place(), letter(part));
+            0
+        }
     }
 }

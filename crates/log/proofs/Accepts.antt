@@ -9,7 +9,8 @@ use native.Mathlib.Omega.{arith}
 use lib.ListN.{length}
 use lib.Dec.{ltb}
 use borrow.Author.Tests.{le-ltb, ltb-false}
-use Rattle.words.proofs.Absurd.{never}
+use Rattle.laws.proofs.Never.{never}
+use Rattle.refusal.specs.declared.Refusal.the-variants.{WrongLog, ShortOutput}
 use Rattle.seven.specs.declared.CycleRecord.{CycleRecord}
 use Rattle.records.specs.Records.{LogRead, records, fault, logOf}
 use Rattle.records.specs.IsLog.{IsLog}
@@ -30,7 +31,7 @@ unfolding ranOf
 accepted-log a b words out n = (by-length (ltb 16384 (length words)) refl, back)
   where
     by-room : length words ≤ 16384 → (rs : List CycleRecord) → logOf words ≡ records rs → (t : Bool) → ltb (length out) (3 * length rs) ≡ t →
-        cond t (refusing a b out 7 (3 * length rs)) (running a b out rs) .answer ≡ Accepted n → IsAccepted words out n
+        cond t (refusing a b out (ShortOutput (3 * length rs))) (running a b out rs) .answer ≡ Accepted n → IsAccepted words out n
     by-room short rs log true q e = never (cc)
     by-room short rs log false q e =
         let size : length rs ≡ n = cc in
@@ -40,15 +41,15 @@ accepted-log a b words out n = (by-length (ltb 16384 (length words)) refl, back)
     by-log short (fault place) log e = never (cc)
     by-log short (records rs) log e = by-room short rs log (ltb (length out) (3 * length rs)) refl e
 
-    by-length : (t : Bool) → ltb 16384 (length words) ≡ t → cond t (refusing a b out 6 16384) (byRecords a b out (logOf words)) .answer ≡ Accepted n → IsAccepted words out n
+    by-length : (t : Bool) → ltb 16384 (length words) ≡ t → cond t (refusing a b out (WrongLog 16384)) (byRecords a b out (logOf words)) .answer ≡ Accepted n → IsAccepted words out n
     by-length true q e = never (cc)
     by-length false q e = by-log (ltb-false 16384 (length words) q) (logOf words) refl e
 
-    back : IsAccepted words out n → cond (ltb 16384 (length words)) (refusing a b out 6 16384) (byRecords a b out (logOf words)) .answer ≡ Accepted n
+    back : IsAccepted words out n → cond (ltb 16384 (length words)) (refusing a b out (WrongLog 16384)) (byRecords a b out (logOf words)) .answer ≡ Accepted n
     back x =
         let log : logOf words ≡ records (x .rs) = is-log words (x .rs) .1 (x .log) in
         let room : 3 * length (x .rs) ≤ length out = omega (arith, x .cycles, x .room) in
-        ap (λ (t : Bool). cond t (refusing a b out 6 16384) (byRecords a b out (logOf words)) .answer) (le-ltb 16384 (length words) (x .short))
+        ap (λ (t : Bool). cond t (refusing a b out (WrongLog 16384)) (byRecords a b out (logOf words)) .answer) (le-ltb 16384 (length words) (x .short))
         ∙ ap (λ (l : LogRead). byRecords a b out l .answer) log
-        ∙ ap (λ (t : Bool). cond t (refusing a b out 7 (3 * length (x .rs))) (running a b out (x .rs)) .answer) (le-ltb (length out) (3 * length (x .rs)) room)
+        ∙ ap (λ (t : Bool). cond t (refusing a b out (ShortOutput (3 * length (x .rs)))) (running a b out (x .rs)) .answer) (le-ltb (length out) (3 * length (x .rs)) room)
         ∙ ap Accepted (sym (x .cycles))

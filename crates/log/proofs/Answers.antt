@@ -7,7 +7,9 @@ use native.Mathlib.Omega.{arith}
 use lib.ListN.{length, drop}
 use lib.Dec.{ltb}
 use borrow.Author.Tests.{lt-ltb, le-ltb}
-use Rattle.words.proofs.Absurd.{never}
+use Rattle.laws.proofs.Never.{never}
+use Rattle.refusal.specs.declared.Refusal.{Refusal}
+use Rattle.refusal.specs.declared.Refusal.the-variants.{WrongLog, ShortOutput}
 use Rattle.seven.specs.declared.CycleRecord.{CycleRecord}
 use Rattle.records.specs.declared.Entry as E
 use Rattle.records.specs.declared.Scan as S
@@ -68,8 +70,8 @@ few-cycles words n e = let s = scanned words n e in omega (arith, s .2, few (len
 -- ---- the answers
 
 module _ (a b : Channel) (words out : List ℕ) where
-  refuses : (number place : ℕ) {r : LogRun} → r ≡ refusedRun number place a b → ranOf a b words out ≡ refusing a b out number place → LogEnsures a b words out r out
-  refuses number place {r} q e =
+  refuses : (why : Refusal) {r : LogRun} → r ≡ refusedRun why a b → ranOf a b words out ≡ refusing a b out why → LogEnsures a b words out r out
+  refuses why {r} q e =
       record {
         answer = ap (λ (x : LogRun). x .answer) q ∙ sym (ap (λ (x : Ran). x .answer) e);
         channel-a = ap (λ (x : LogRun). x .a) q ∙ sym (ap (λ (x : Ran). x .a) e);
@@ -77,23 +79,23 @@ module _ (a b : Channel) (words out : List ℕ) where
         output = sym (ap (λ (x : Ran). x .out) e);
       }
 
-  pub too-long : {r : LogRun} → r ≡ refusedRun 6 16384 a b → 16384 < length words → LogEnsures a b words out r out
+  pub too-long : {r : LogRun} → r ≡ refusedRun (WrongLog 16384) a b → 16384 < length words → LogEnsures a b words out r out
   unfolding ranOf
-  too-long q h = refuses 6 16384 q (simp (lt-ltb 16384 (length words) h))
+  too-long q h = refuses (WrongLog 16384) q (simp (lt-ltb 16384 (length words) h))
 
   module _ (short : length words ≤ 16384) where
     by-log : {l : LogRead} → logOf words ≡ l → ranOf a b words out ≡ byRecords a b out l
     unfolding ranOf
     by-log e = simp (le-ltb 16384 (length words) short) (ap (byRecords a b out) e)
 
-    pub bad-word : {r : LogRun} {place : ℕ} → r ≡ refusedRun 6 place a b → scanOf words ≡ S.the-variants.Bad place → LogEnsures a b words out r out
-    bad-word {place = place} q e = refuses 6 place q (by-log (faulty words place e))
+    pub bad-word : {r : LogRun} {place : ℕ} → r ≡ refusedRun (WrongLog place) a b → scanOf words ≡ S.the-variants.Bad place → LogEnsures a b words out r out
+    bad-word {place = place} q e = refuses (WrongLog place) q (by-log (faulty words place e))
 
-    pub no-room : {r : LogRun} {n : ℕ} → r ≡ refusedRun 7 (3 * n) a b → scanOf words ≡ S.the-variants.Cycles n → length out < 3 * n → LogEnsures a b words out r out
+    pub no-room : {r : LogRun} {n : ℕ} → r ≡ refusedRun (ShortOutput (3 * n)) a b → scanOf words ≡ S.the-variants.Cycles n → length out < 3 * n → LogEnsures a b words out r out
     no-room {n = n} q e h =
         let s = scanned words n e in
         let less : length out < 3 * length (s .0) = omega (arith, s .2) in
-        refuses 7 (3 * n) q (by-log (s .1) ∙ simp (lt-ltb (length out) (3 * length (s .0)) less) (ap (λ (k : ℕ). refusing a b out 7 (3 * k)) (sym (s .2))))
+        refuses (ShortOutput (3 * n)) q (by-log (s .1) ∙ simp (lt-ltb (length out) (3 * length (s .0)) less) (ap (λ (k : ℕ). refusing a b out (ShortOutput (3 * k))) (sym (s .2))))
 
     pub sound : {n : ℕ} → scanOf words ≡ S.the-variants.Cycles n → 3 * n ≤ length out → Sound words out n
     sound {n} e h =

@@ -9,6 +9,7 @@ use Rattle.channel.specs.declared.Channel.{Channel}
 use Rattle.state.specs.declared.State.{State}
 use Rattle.seven.specs.declared.CycleRecord.{CycleRecord}
 use Rattle.records.specs.Records.{records, logOf}
+use Rattle.refusal.specs.declared.Refusal.{Refusal}
 use Rattle.log.specs.declared.LogRun.{LogRun}
 use Rattle.log.specs.declared.LogAnswer.the-variants.{Refused}
 use Rattle.log.specs.Run.{ranOf}
@@ -22,8 +23,8 @@ pub record LogEnsures (a b : Channel) (words out : List ℕ) (r : LogRun) (out�
 
 -- ---- of the private functions
 
-abbrev pub refusedRun : ℕ → ℕ → Channel → Channel → LogRun
-refusedRun number place a b = record { answer = Refused number place; a = a; b = b }
+abbrev pub refusedRun : Refusal → Channel → Channel → LogRun
+refusedRun why a b = record { answer = Refused why; a = a; b = b }
 
 -- the words are a log of these records, and the output has room for their words
 pub record Enough (words out : List ℕ) : Type 0 where

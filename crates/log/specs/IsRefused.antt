@@ -2,14 +2,16 @@
 use Prim.Native.Nat.{ℕ, _*_, _≤_, _<_}
 use mathlib.Core.List.{List}
 use lib.ListN.{length}
+use Rattle.refusal.specs.declared.Refusal.{Refusal}
+use Rattle.refusal.specs.declared.Refusal.the-variants.{WrongLog, ShortOutput}
 use Rattle.seven.specs.declared.CycleRecord.{CycleRecord}
 use Rattle.records.specs.IsLog.{IsLog}
 use Rattle.records.specs.IsFault.{FaultAt}
 
-pub data IsRefused (words out : List ℕ) : ℕ → ℕ → Type 0 where
+pub data IsRefused (words out : List ℕ) : Refusal → Type 0 where
   -- "log over 16,384 words": 6, 16,384
-  long : 16_384 < length words → IsRefused words out 6 16_384
+  long : 16_384 < length words → IsRefused words out (WrongLog 16_384)
   -- "or a word missing or wrong": 6, its place; "In a log length goes first"
-  wrong : {place : ℕ} → length words ≤ 16_384 → FaultAt words place → IsRefused words out 6 place
+  wrong : {place : ℕ} → length words ≤ 16_384 → FaultAt words place → IsRefused words out (WrongLog place)
   -- "output below 3 words a cycle": 7, the words wanted; "6 before 7"
-  small : {rs : List CycleRecord} → length words ≤ 16_384 → IsLog rs words → length out < 3 * length rs → IsRefused words out 7 (3 * length rs)
+  small : {rs : List CycleRecord} → length words ≤ 16_384 → IsLog rs words → length out < 3 * length rs → IsRefused words out (ShortOutput (3 * length rs))

@@ -15,6 +15,8 @@ use Rattle.report.specs.Report.{reportOf}
 use Rattle.channel.specs.Cycle.{withState, next}
 use Rattle.channel.specs.Word.{word}
 use Rattle.device.specs.Device.{deviceOf}
+use Rattle.refusal.specs.declared.Refusal.{Refusal}
+use Rattle.refusal.specs.declared.Refusal.the-variants.{WrongLog, ShortOutput}
 use Rattle.log.specs.declared.LogAnswer.{LogAnswer}
 use Rattle.log.specs.declared.LogAnswer.the-variants.{Accepted, Refused}
 
@@ -75,8 +77,8 @@ pub record Ran : Type 0 where
   pub out : List ℕ
 
 -- "output, channels" are left as they were
-abbrev pub refusing : Channel → Channel → List ℕ → ℕ → ℕ → Ran
-refusing a b out number place = record { answer = Refused number place; a = a; b = b; out = out }
+abbrev pub refusing : Channel → Channel → List ℕ → Refusal → Ran
+refusing a b out why = record { answer = Refused why; a = a; b = b; out = out }
 
 -- "from its front on; the output words behind them are not touched. The number of cycles and both channels come back"
 abbrev pub running : Channel → Channel → List ℕ → List CycleRecord → Ran
@@ -91,9 +93,9 @@ running a b out rs =
 
 -- "output below 3 words a cycle": 7, the words wanted; "6 before 7"
 abbrev pub byRecords : Channel → Channel → List ℕ → LogRead → Ran
-byRecords a b out (fault place) = refusing a b out 6 place
-byRecords a b out (records rs) = cond (ltb (length out) (3 * length rs)) (refusing a b out 7 (3 * length rs)) (running a b out rs)
+byRecords a b out (fault place) = refusing a b out (WrongLog place)
+byRecords a b out (records rs) = cond (ltb (length out) (3 * length rs)) (refusing a b out (ShortOutput (3 * length rs))) (running a b out rs)
 
 -- "log over 16,384 words, or a word missing or wrong": 6; "In a log length goes first"
 unfoldable pub ranOf : Channel → Channel → List ℕ → List ℕ → Ran
-ranOf a b words out = cond (ltb 16_384 (length words)) (refusing a b out 6 16_384) (byRecords a b out (logOf words))
+ranOf a b words out = cond (ltb 16_384 (length words)) (refusing a b out (WrongLog 16_384)) (byRecords a b out (logOf words))

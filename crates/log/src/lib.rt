@@ -10,6 +10,7 @@ use channel::Channel;
 use inputs::Reading;
 use machine_data::Values;
 use records::Scan;
+use refusal::Refusal;
 use seven::CycleRecord;
 use state::Given;
 use state::State;
@@ -18,8 +19,7 @@ use words::Word;
 pub enum LogAnswer {
     // how many cycles were run
     Accepted(usize),
-    // number, and the place or the words wanted
-    Refused(u32, usize),
+    Refused(Refusal),
 }
 
 // Both channels come back, as they were where the log is refused.
@@ -108,11 +108,11 @@ fn put_devices(out: &mut [u32], cycles: usize)
     }
 }
 
-fn refused(number: u32, place: usize, a: Channel, b: Channel) -> LogRun
-    ensures { λ r. ⌜ r ≡ refusedRun number place a b ⌝ }
+fn refused(why: Refusal, a: Channel, b: Channel) -> LogRun
+    ensures { λ r. ⌜ r ≡ refusedRun why a b ⌝ }
 {
     LogRun {
-        answer: LogAnswer::Refused(number, place),
+        answer: LogAnswer::Refused(why),
         a,
         b,
     }
@@ -142,16 +142,16 @@ pub fn run_log(a: Channel, b: Channel, words: &[u32], out: &mut [u32]) -> LogRun
     ensures { λ r. ⌜ LogEnsures a b (now (words .entry)) (now (out .entry)) r (now (out .exit)) ⌝ }
 {
     if 16384 < words.len() {
-        return refused(6, 16384, a, b);
+        return refused(Refusal::WrongLog(16384), a, b);
     }
     match records::scan_log(words) {
         Scan::Cycles(cycles) => {
             if out.len() < 3 * cycles {
-                refused(7, 3 * cycles, a, b)
+                refused(Refusal::ShortOutput(3 * cycles), a, b)
             } else {
                 accepted(a, b, words, out, cycles)
             }
         }
-        Scan::Bad(place) => refused(6, place, a, b),
+        Scan::Bad(place) => refused(Refusal::WrongLog(place), a, b),
     }
 }

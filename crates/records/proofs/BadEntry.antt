@@ -5,7 +5,7 @@ use mathlib.Core.Bool.{Bool, true, false}
 use mathlib.Core.List.{List, [], _∷_}
 use Prim.Native.Nat.{ℕ, _+_, _*_}
 use native.Mathlib.Omega.{arith}
-use Rattle.words.proofs.Absurd.{never}
+use Rattle.laws.proofs.Never.{never}
 use Rattle.words.specs.Words.{wordAt}
 use Rattle.words.specs.Breaks.{Sort, a-position, a-lower, an-upper, an-end, a-remark, fits}
 use Rattle.words.proofs.Cases.{is-remark}

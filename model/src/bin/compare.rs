@@ -164,13 +164,13 @@ impl Tally {
         let words = words::of_bytes(kit);
         let answer = listing::outputs(kit).unwrap_or_default();
         let mut output = vec![MARK_WORD; self.outputs.pick(random, answer.len())];
-        let cycles = proved::run_kit(&words, &mut output);
-        let fits = answer.len() <= output.len();
-        let expected = if fits { answer.len() / 3 } else { 0 };
-        if cycles == expected && is_lent_right(&output, &answer, MARK_WORD) {
+        let ran = proved::run_kit(&words, &mut output);
+        let expected = listing::run(&words, &mut output.clone()).map_err(proved::Refused::from);
+        if ran == expected && is_lent_right(&output, &answer, MARK_WORD) {
             return None;
         }
-        Some(lent("log run", output.len(), answer.len(), cycles))
+        let room = lent("log run", output.len(), answer.len(), ran.unwrap_or(0));
+        Some(format!("{room}: {ran:?}, {expected:?} wanted"))
     }
 }
 

@@ -175,7 +175,7 @@ impl Bench {
         let (kit, words) = (black_box(&self.kit), black_box(&self.words));
         let (output, text) = (black_box(&mut self.output), black_box(&mut self.text));
         match call {
-            Call::Run => proved::run_kit(words, output),
+            Call::Run => proved::run_kit(words, output).unwrap_or(0),
             Call::ModelRun => listing::run(words, output).unwrap_or(0),
             Call::List => proved::list_kit(kit, text),
             Call::ModelList => listing::list_into(kit, text).unwrap_or(0),

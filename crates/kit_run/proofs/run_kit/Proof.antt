@@ -3,7 +3,6 @@ use mathlib.Core.Path.{ap, _∙_}
 use native.Mathlib.Omega.{arith}
 use denote.Ref.{now}
 use Rattle.kit_run.specs.KitRun.{KitRan}
-use Rattle.kit_run.specs.declared.KitRun as R
 use Rattle.kit_run.proofs.Answers.{by-read, log-there, log-ran}
 use borrow.Author.Needs.{needs}
 use Rattle.kit_run.proofs.run_kit.Statement.{statement}
@@ -33,12 +32,6 @@ run-behind-requires c κs = search needs
 enum-known-answer-2 : tie.Need-enum-known-answer-2
 enum-known-answer-2 c = search needs
 
-number-requires : tie.Need-number-requires
-number-requires c κs = search needs
-
-place-requires : tie.Need-place-requires
-place-requires c κs = search needs
-
 same-length : tie.Need-same-length
 same-length c = search needs
 
@@ -46,8 +39,8 @@ returns : tie.Need-returns
 returns c = let a = c .before .before .before .before .before .before .before .before .before .before .before .before .before .args in let is = log-ran (now (a .words)) (now (a .out)) (c .before .before .before .before .before .before .before .before .before .before .read-kit .ensures) (c .before .before .before .before .before .before .answer .given .1) in (c .before .before .run-behind .ensures .0 ∙ ap (λ (x : KitRan). x .answer) is, c .before .before .run-behind .ensures .1 ∙ ap (λ (x : KitRan). x .out) is)
 
 returns-2 : tie.Need-returns-2
-returns-2 c = let a = c .before .before .before .before .before .before .before .before .before .before .args in let is = by-read (now (a .words)) (now (a .out)) (c .before .before .before .before .before .before .before .read-kit .ensures) (c .before .before .before .answer2 .given .1) in (
-  (λ i. R.the-variants.Refused (c .before .number .ensures i) (c .place .ensures i) (c .before .before .before .answer2 .given .0 .1 .0)) ∙ ap (λ (x : KitRan). x .answer) is,
+returns-2 c = let a = c .before .before .before .before .before .before .before .before .args in let is = by-read (now (a .words)) (now (a .out)) (c .before .before .before .before .before .read-kit .ensures) (c .before .answer2 .given .1) in (
+  ap (λ (x : KitRan). x .answer) is,
   ap (λ (x : KitRan). x .out) is,
 )
 
@@ -63,8 +56,6 @@ run-kit-spec =
     part-run-behind-end
     run-behind-requires
     enum-known-answer-2
-    number-requires
-    place-requires
     same-length
     returns
     returns-2)

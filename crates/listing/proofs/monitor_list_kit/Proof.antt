@@ -1,7 +1,7 @@
 -- `listing::monitor_list_kit` meets its contract. Assumes nothing.
 use borrow.Author.Tests.{not-true, not-false}
 use denote.Ref.{now}
-use Rattle.run_text.proofs.Texts.{same-text, short-text}
+use Rattle.run_text.proofs.Texts.{same-text}
 use Rattle.listing.proofs.Texts.{whole-size, listed-whole, listed-odd}
 use borrow.Author.Needs.{needs}
 use Rattle.listing.proofs.monitor_list_kit.Statement.{statement}
@@ -10,14 +10,14 @@ use Rattle.listing.proofs.monitor_list_kit.Tie as tie
 whole-words-requires : tie.Need-whole-words-requires
 whole-words-requires c κs = search needs
 
-put-refusal-requires : tie.Need-put-refusal-requires
-put-refusal-requires c κs = search needs
+put-refused-requires : tie.Need-put-refused-requires
+put-refused-requires c κs = search needs
 
 same-length : tie.Need-same-length
 same-length c = search needs
 
 returns : tie.Need-returns
-returns c = let a = c .before .before .before .before .before .before .before .before .args in same-text (now (a .out)) (listed-odd (now (a .kit)) (c .before .before .before .before .before .whole-words .ensures) (not-true _ (c .before .before .before .before .if1 .taken))) (short-text _ _ (c .before .before .put-refusal .ensures))
+returns c = let a = c .before .before .before .before .before .before .before .before .args in same-text (now (a .out)) (listed-odd (now (a .kit)) (c .before .before .before .before .before .whole-words .ensures) (not-true _ (c .before .before .before .before .if1 .taken))) (c .before .before .put-refused .ensures)
 
 list-short-requires : tie.Need-list-short-requires
 list-short-requires c κs = (c .before .if2 .taken, whole-size (now (c .before .before .before .before .before .before .args .kit)) (c .before .before .before .whole-words .ensures) (not-false _ (c .before .before .if1 .left)) .1)
@@ -42,7 +42,7 @@ monitor-list-kit-spec =
     tie.close
     (tie.spec
     whole-words-requires
-    put-refusal-requires
+    put-refused-requires
     same-length
     returns
     list-short-requires

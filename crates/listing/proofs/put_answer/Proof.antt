@@ -1,10 +1,9 @@
 -- `listing::put_answer` meets its contract. Assumes nothing.
-use mathlib.Core.Path.{sym, ap, _∙_}
+use mathlib.Core.Path.{sym, ap}
 use native.Mathlib.Omega.{arith}
 use denote.Ref.{now}
-use Rattle.lines.specs.Lines.{refusalLine}
 use Rattle.kit_run.specs.declared.KitRun.{KitRun}
-use Rattle.run_text.proofs.Texts.{same-text, short-text}
+use Rattle.run_text.proofs.Texts.{same-text}
 use Rattle.listing.specs.Listing.{answerText}
 use Rattle.listing.proofs.Texts.{cycles-there, cycles-size}
 use borrow.Author.Needs.{needs}
@@ -26,11 +25,8 @@ put-run-requires c κs = search needs
 enum-known-answer-2 : tie.Need-enum-known-answer-2
 enum-known-answer-2 c = search needs
 
-letter-requires : tie.Need-letter-requires
-letter-requires c κs = search needs
-
-put-refusal-requires : tie.Need-put-refusal-requires
-put-refusal-requires c κs = search needs
+put-refused-requires : tie.Need-put-refused-requires
+put-refused-requires c κs = search needs
 
 same-length : tie.Need-same-length
 same-length c = search needs
@@ -42,7 +38,7 @@ same-length-2 : tie.Need-same-length-2
 same-length-2 c = search needs
 
 returns-2 : tie.Need-returns-2
-returns-2 c = let a = c .before .before .before .before .before .before .before .before .before .before .args in same-text (now (a .out)) (ap (refusalLine _ _) (c .before .before .before .letter .ensures) ∙ sym (ap (λ (x : KitRun). answerText x (now (a .words))) (c .before .before .before .before .before .before .answer2 .given .1))) (short-text _ _ (c .before .before .put-refusal .ensures))
+returns-2 c = let a = c .before .before .before .before .before .before .before .before .before .args in same-text (now (a .out)) (sym (ap (λ (x : KitRun). answerText x (now (a .words))) (c .before .before .before .before .before .answer2 .given .1))) (c .before .before .put-refused .ensures)
 
 pub put-answer-spec : {M : Type 1} → statement M
 put-answer-spec =
@@ -53,8 +49,7 @@ put-answer-spec =
     slice-aggregate-put-run
     put-run-requires
     enum-known-answer-2
-    letter-requires
-    put-refusal-requires
+    put-refused-requires
     same-length
     returns
     same-length-2

@@ -22,8 +22,8 @@ enum-known-cycles c = search needs
 mul-if2 : tie.Need-mul-if2
 mul-if2 c = let a = c .before .before .before .before .before .before .before .args in omega (arith, few-cycles (now (a .words)) _ (sym (c .before .before .before .scan-log .ensures) ∙ c .before .cycles .given .1), c .before .before .before .before .if1 .left)
 
-mul-refused : tie.Need-mul-refused
-mul-refused c = let a = c .before .before .before .before .before .before .before .before .args in omega (arith, few-cycles (now (a .words)) _ (sym (c .before .before .before .before .scan-log .ensures) ∙ c .before .before .cycles .given .1), c .before .before .before .before .before .if1 .left)
+mul-t16 : tie.Need-mul-t16
+mul-t16 c = let a = c .before .before .before .before .before .before .before .before .args in omega (arith, few-cycles (now (a .words)) _ (sym (c .before .before .before .before .scan-log .ensures) ∙ c .before .before .cycles .given .1), c .before .before .before .before .before .if1 .left)
 
 refused-requires-2 : tie.Need-refused-requires-2
 refused-requires-2 c κs = search needs
@@ -58,7 +58,7 @@ run-log-spec =
     scan-log-requires
     enum-known-cycles
     mul-if2
-    mul-refused
+    mul-t16
     refused-requires-2
     accepted-requires
     enum-known-place

@@ -4,6 +4,7 @@ ghost use mathlib.Core.Bool.{cond};
 ghost use Prim.Native.Nat.{_+_, _≤_, _*_};
 ghost use lib.ListN.{length};
 ghost use Rattle.machine_data.specs.Data.{lent};
+ghost use Rattle.seven.specs.Seven.{sixFrom, recordOf};
 ghost use Rattle.log.specs.Alone.{readingIn, givenIn, withDevices};
 ghost use Rattle.log.specs.Ensures.{LogEnsures, refusedRun, Enough, Sound, RunsAlone};
 use channel::Channel;
@@ -12,6 +13,8 @@ use machine_data::Values;
 use records::Scan;
 use refusal::Refusal;
 use seven::CycleRecord;
+use seven::Halves;
+use seven::Six;
 use state::Given;
 use state::State;
 use words::Word;
@@ -27,6 +30,28 @@ pub struct LogRun {
     pub answer: LogAnswer,
     pub a: Channel,
     pub b: Channel,
+}
+
+// The record that begins with a position at a place where one stands whole.
+fn record_at(words: &[u32], at: usize, position: i32) -> CycleRecord
+    requires { ⌜ at + 7 ≤ length (now words) ⌝ }
+    ensures { λ r. ⌜ r ≡ recordOf position (sixFrom (now (words .entry)) at) ⌝ }
+{
+    let a = Halves {
+        lower: words[at + 1],
+        upper: words[at + 2],
+    };
+    let b = Halves {
+        lower: words[at + 4],
+        upper: words[at + 5],
+    };
+    let six = Six {
+        a,
+        position: words[at + 3],
+        b,
+        end: words[at + 6],
+    };
+    seven::record_of(position, six)
 }
 
 // A channel's reading in a record: A's is the first of two, B's the second.
@@ -81,7 +106,7 @@ fn run_channel(
             at += 1;
             continue;
         };
-        let recorded = seven::record_of(position, seven::six_behind(words, at));
+        let recorded = record_at(words, at, position);
         let given = given_by(recorded, second, other, count, reported);
         let after = channel::advance(&list.values, list.count, state, given);
         out[next] = after.word;

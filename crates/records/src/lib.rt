@@ -62,14 +62,13 @@ fn other_at(words: &[u32], at: usize, a: Reading) -> Entry
 }
 
 // A word that begins no record: a remark is passed over.
-fn between(word: Word, at: usize) -> Entry
-    ensures { λ r. ⌜ r ≡ betweenOf word at ⌝ }
+fn between(words: &[u32], at: usize) -> Entry
+    ensures { λ r. ⌜ r ≡ betweenOf (wordAt (now (words .entry)) at) at ⌝ }
 {
-    if let Word::Remark = word {
-        Entry::Remark
-    } else {
-        Entry::Bad(at)
-    }
+    let Word::Remark = words::word_at(words, at) else {
+        return Entry::Bad(at);
+    };
+    Entry::Remark
 }
 
 // A record that begins with a position, word by word: for the place of the word that is missing or wrong.
@@ -87,9 +86,8 @@ fn by_words(words: &[u32], at: usize, position: i32) -> Entry
 pub fn entry_at(words: &[u32], at: usize) -> Entry
     ensures { λ r. ⌜ r ≡ entryAt (now (words .entry)) at ⌝ }
 {
-    let first = words::word_at(words, at);
-    let Word::Position(position) = first else {
-        return between(first, at);
+    let Word::Position(position) = words::word_at(words, at) else {
+        return between(words, at);
     };
     let six = seven::six_behind(words, at);
     if seven::are_six(six) {

@@ -7,7 +7,8 @@ use borrow.Author.Needs.{needs}
 use lib.ListN.{length, length-set}
 use lib.IntN.{ℤ}
 use Rattle.machine_data.specs.Data.{lent}
-use Rattle.seven.specs.Seven.{recordOf}
+use Rattle.seven.specs.Seven.{sixFrom, recordOf}
+use Rattle.seven.proofs.ByBits.{six-there}
 use Rattle.records.proofs.Seven.{begins-none}
 use Rattle.log.specs.Alone.{givenIn}
 use Rattle.log.proofs.Going.{Going, starts, there, remarked, stepped, ended}
@@ -48,11 +49,8 @@ loop-less c = search needs
 loop-again : tie.Need-loop-again Inv-loop μ-loop
 loop-again c = let l = c .before .before .before .before .loop in (search needs, l .inv .1, remarked (l .inv .2) (c .before .before .before .loop-test .taken) (begins-none _ (c .before .word-of .ensures) (c .match .keys2)))
 
-six-behind-requires : tie.Need-six-behind-requires Inv-loop μ-loop
-six-behind-requires c κs = search needs
-
-record-of-requires : tie.Need-record-of-requires Inv-loop μ-loop
-record-of-requires c κs = search needs
+record-at-requires : tie.Need-record-at-requires Inv-loop μ-loop
+record-at-requires c κs = there (c .before .before .before .before .before .before .loop .inv .2) (c .before .before .before .before .before .loop-test .taken) (sym (c .before .before .before .word-of .ensures) ∙ c .before .position .given .1) .0
 
 given-by-requires : tie.Need-given-by-requires Inv-loop μ-loop
 given-by-requires c κs = search needs
@@ -61,31 +59,33 @@ advance-requires : tie.Need-advance-requires Inv-loop μ-loop
 advance-requires c κs = search needs
 
 mul-out : tie.Need-mul-out Inv-loop μ-loop
-mul-out c = omega (arith, there (c .before .before .before .before .before .before .before .before .before .before .before .before .loop .inv .2) (c .before .before .before .before .before .before .before .before .before .before .before .loop-test .taken) (sym (c .before .before .before .before .before .before .before .before .before .word-of .ensures) ∙ c .before .before .before .before .before .before .before .position .given .1) .1, c .before .before .before .before .before .before .before .before .before .before .before .before .loop .inv .1, c .before .before .before .before .before .before .before .before .before .before .before .before .before .before .before .before .before .before .good)
+mul-out c = omega (arith, there (c .before .before .before .before .before .before .before .before .before .before .before .loop .inv .2) (c .before .before .before .before .before .before .before .before .before .before .loop-test .taken) (sym (c .before .before .before .before .before .before .before .before .word-of .ensures) ∙ c .before .before .before .before .before .before .position .given .1) .1, c .before .before .before .before .before .before .before .before .before .before .before .loop .inv .1, c .before .before .before .before .before .before .before .before .before .before .before .before .before .before .before .before .before .good)
 
 slice-write-out : tie.Need-slice-write-out Inv-loop μ-loop
-slice-write-out c = there (c .before .before .before .before .before .before .before .before .before .before .before .before .loop .inv .2) (c .before .before .before .before .before .before .before .before .before .before .before .loop-test .taken) (sym (c .before .before .before .before .before .before .before .before .before .word-of .ensures) ∙ c .before .before .before .before .before .before .before .position .given .1) .1
+slice-write-out c = there (c .before .before .before .before .before .before .before .before .before .before .before .loop .inv .2) (c .before .before .before .before .before .before .before .before .before .before .loop-test .taken) (sym (c .before .before .before .before .before .before .before .before .word-of .ensures) ∙ c .before .before .before .before .before .before .position .given .1) .1
 
 next-k-requires : tie.Need-next-k-requires Inv-loop μ-loop
 next-k-requires c κs = search needs
 
 add-at-2 : tie.Need-add-at-2 Inv-loop μ-loop
-add-at-2 c = omega (arith, there (c .before .before .before .before .before .before .before .before .before .before .before .before .before .before .loop .inv .2) (c .before .before .before .before .before .before .before .before .before .before .before .before .before .loop-test .taken) (sym (c .before .before .before .before .before .before .before .before .before .before .before .word-of .ensures) ∙ c .before .before .before .before .before .before .before .before .before .position .given .1) .0, c .before .before .before .before .before .before .before .before .before .before .before .before .before .before .before .before .before .before .before .before .good)
+add-at-2 c = omega (arith, there (c .before .before .before .before .before .before .before .before .before .before .before .before .before .loop .inv .2) (c .before .before .before .before .before .before .before .before .before .before .before .before .loop-test .taken) (sym (c .before .before .before .before .before .before .before .before .before .before .word-of .ensures) ∙ c .before .before .before .before .before .before .before .before .position .given .1) .0, c .before .before .before .before .before .before .before .before .before .before .before .before .before .before .before .before .before .before .before .good)
 
 add-next : tie.Need-add-next Inv-loop μ-loop
-add-next c = omega (arith, there (c .before .before .before .before .before .before .before .before .before .before .before .before .before .before .loop .inv .2) (c .before .before .before .before .before .before .before .before .before .before .before .before .before .loop-test .taken) (sym (c .before .before .before .before .before .before .before .before .before .before .before .word-of .ensures) ∙ c .before .before .before .before .before .before .before .before .before .position .given .1) .1, c .before .before .before .before .before .before .before .before .before .before .before .before .before .before .loop .inv .1, c .before .before .before .before .before .before .before .before .before .before .before .before .before .before .before .before .before .before .before .before .good)
+add-next c = omega (arith, there (c .before .before .before .before .before .before .before .before .before .before .before .before .before .loop .inv .2) (c .before .before .before .before .before .before .before .before .before .before .before .before .loop-test .taken) (sym (c .before .before .before .before .before .before .before .before .before .before .word-of .ensures) ∙ c .before .before .before .before .before .before .before .before .position .given .1) .1, c .before .before .before .before .before .before .before .before .before .before .before .before .before .loop .inv .1, c .before .before .before .before .before .before .before .before .before .before .before .before .before .before .before .before .before .before .before .good)
 
 loop-less-2 : tie.Need-loop-less-2 Inv-loop μ-loop
-loop-less-2 c = omega (arith, c .before .before .before .before .before .before .before .before .before .before .before .before .before .loop-test .taken)
+loop-less-2 c = omega (arith, c .before .before .before .before .before .before .before .before .before .before .before .before .loop-test .taken)
 
 loop-again-2 : tie.Need-loop-again-2 Inv-loop μ-loop
-loop-again-2 c = let l = c .before .before .before .before .before .before .before .before .before .before .before .before .before .before .loop in let a = c .before .before .before .before .before .before .before .before .before .before .before .before .before .before .before .before .before .before .before .before .args in
-    let p = c .before .before .before .before .before .before .before .before .before .position .given .0 .0 in
-    let first = sym (c .before .before .before .before .before .before .before .before .before .before .before .word-of .ensures) ∙ c .before .before .before .before .before .before .before .before .before .position .given .1 in
-    let is = c .before .before .before .before .before .given-by .ensures ∙ ap (givenIn (a .second) (lent (now (a .other)) (a .count)) (l .reported)) (c .before .before .before .before .before .before .record-of .ensures ∙ ap (λ (z : ℤ). recordOf z (c .before .before .before .before .before .before .before .six-behind .result)) {y = p} (search needs) ∙ ap (recordOf p) (c .before .before .before .before .before .before .before .six-behind .ensures)) in (
-      there (l .inv .2) (c .before .before .before .before .before .before .before .before .before .before .before .before .before .loop-test .taken) first .0,
+loop-again-2 c = let l = c .before .before .before .before .before .before .before .before .before .before .before .before .before .loop in let a = c .before .before .before .before .before .before .before .before .before .before .before .before .before .before .before .before .before .before .before .args in
+    let s = now (a .words) in
+    let p = c .before .before .before .before .before .before .before .before .position .given .0 .0 in
+    let first = sym (c .before .before .before .before .before .before .before .before .before .before .word-of .ensures) ∙ c .before .before .before .before .before .before .before .before .position .given .1 in
+    let whole = there (l .inv .2) (c .before .before .before .before .before .before .before .before .before .before .before .before .loop-test .taken) first in
+    let recorded = c .before .before .before .before .before .before .record-at .ensures ∙ ap (λ (z : ℤ). recordOf z (sixFrom s (l .at))) {y = p} (search needs) ∙ ap (recordOf p) (sym (six-there s (l .at) (omega (arith, whole .0)))) in (
+      whole .0,
       length-set (l .out) (l .next) (c .before .before .advance .result .word) ∙ l .inv .1,
-      stepped (l .inv .2) (c .before .before .before .before .before .before .before .before .before .before .before .before .before .loop-test .taken) first is (c .before .before .advance .ensures) (c .next-k .ensures),
+      stepped (l .inv .2) (c .before .before .before .before .before .before .before .before .before .before .before .before .loop-test .taken) first (c .before .before .before .before .before .given-by .ensures ∙ ap (givenIn (a .second) (lent (now (a .other)) (a .count)) (l .reported)) recorded) (c .before .before .advance .ensures) (c .next-k .ensures),
     )
 
 same-length : tie.Need-same-length Inv-loop μ-loop
@@ -109,8 +109,7 @@ run-channel-spec =
     add-at
     loop-less
     loop-again
-    six-behind-requires
-    record-of-requires
+    record-at-requires
     given-by-requires
     advance-requires
     mul-out

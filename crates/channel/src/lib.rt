@@ -59,6 +59,7 @@ fn usable(values: &Values, count: usize, state: State, given: Given, findings: F
     let strongest = summary.strongest;
     let clears = clears(given, summary);
     let slow = speed::slower(values, findings.moved, numbers::SHUTDOWN_SPEED);
+    let after = stop.next(values, clears, strongest, slow, reading);
     State {
         k: report::next_k(count, state.k),
         kept: Kept {
@@ -67,7 +68,7 @@ fn usable(values: &Values, count: usize, state: State, given: Given, findings: F
             differing: findings.differing,
             fault: fault.cleared(clears),
         },
-        stop: stop.next(values, clears, strongest, slow, reading),
+        stop: after,
         previous: Previous::At(reading.position),
     }
 }
@@ -102,13 +103,10 @@ fn found(values: &Values, count: usize, state: State, given: Given, findings: Fi
     ensures { λ r. ⌜ r ≡ advancedBy (lent (now (values .entry)) count) state given findings ⌝ }
 {
     let after = usable(values, count, state, given, findings);
+    let below_nx = speed::slower(values, findings.moved, numbers::NX);
     Advanced {
         state: after,
-        word: word(
-            values,
-            after,
-            speed::slower(values, findings.moved, numbers::NX),
-        ),
+        word: word(values, after, below_nx),
     }
 }
 

@@ -15,21 +15,21 @@ clears-requires c κs = search needs
 slower-requires : tie.Need-slower-requires
 slower-requires c κs = search needs
 
-next-k-requires : tie.Need-next-k-requires
-next-k-requires c κs = search needs
-
 next-requires : tie.Need-next-requires
 next-requires c κs = search needs
 
-cleared-requires : tie.Need-cleared-requires
-cleared-requires c κs = search needs
+next-k-requires : tie.Need-next-k-requires
+next-k-requires c κs = search needs
 
 next-requires-2 : tie.Need-next-requires-2
 next-requires-2 c κs = search needs
 
+cleared-requires : tie.Need-cleared-requires
+cleared-requires c κs = search needs
+
 returns : tie.Need-returns
 returns c = let fp : SFits w32 (c .before .before .before .before .before .before .before .before .before .before .before .before .before .args .given .reading .position) = search needs in
-    simp (toZ-ofZ fp) (simp (c .before .next2 .ensures, c .before .before .cleared .ensures, c .before .before .before .next .ensures, c .before .before .before .before .next-k .ensures, c .before .before .before .before .before .slower .ensures, c .before .before .before .before .before .before .clears .ensures, c .before .before .before .before .before .before .before .of .ensures))
+    simp (toZ-ofZ fp) (simp (c .before .before .next2 .ensures, c .before .cleared .ensures, c .before .before .before .before .next .ensures, c .before .before .before .next-k .ensures, c .before .before .before .before .before .slower .ensures, c .before .before .before .before .before .before .clears .ensures, c .before .before .before .before .before .before .before .of .ensures))
 
 pub usable-spec : {M : Type 1} → statement M
 usable-spec =
@@ -38,8 +38,8 @@ usable-spec =
     of-requires
     clears-requires
     slower-requires
-    next-k-requires
     next-requires
-    cleared-requires
+    next-k-requires
     next-requires-2
+    cleared-requires
     returns)

@@ -15,6 +15,7 @@ use Rattle.state.specs.declared.Given.{Given}
 use Rattle.channel.specs.declared.Channel.{Channel}
 use Rattle.channel.specs.Cycle.{next, withState}
 use Rattle.channel.specs.Word.{word}
+use Rattle.refusal.specs.declared.Refusal.the-variants.{WrongLog, ShortOutput}
 use Rattle.log.specs.Run.{deviceCycle, lastOf, linesOf, bothOf, Ran, refusing, running, byRecords, ranOf}
 use Rattle.demand_3.specs.Calls.{Side, as-a, as-b, own, Words, wordsAt, wordsFrom, answeredWords}
 use Rattle.demand_3.specs.History.{givenOf, givensOf, recordsRun}
@@ -128,12 +129,12 @@ unfolding ranOf givensOf
 ran-leads s c o words out = short (ltb 16_384 (length words)) (logOf words)
   where
     room : (t : Bool) (rs : List CycleRecord) →
-        LogLeads s c o (records rs) (cond t (refusing (own s c o) (own s o c) out 7 (3 * length rs)) (running (own s c o) (own s o c) out rs))
+        LogLeads s c o (records rs) (cond t (refusing (own s c o) (own s o c) out (ShortOutput (3 * length rs))) (running (own s c o) (own s o c) out rs))
     room true rs = refused-leads s c o
     room false rs = running-leads s c o out rs
 
     short : (t : Bool) (l : LogRead) →
-        LogLeads s c o l (cond t (refusing (own s c o) (own s o c) out 6 16_384) (byRecords (own s c o) (own s o c) out l))
+        LogLeads s c o l (cond t (refusing (own s c o) (own s o c) out (WrongLog 16_384)) (byRecords (own s c o) (own s o c) out l))
     short true l = refused-leads s c o
     short false (fault place) = refused-leads s c o
     short false (records rs) = room (ltb (length out) (3 * length rs)) rs

@@ -15,7 +15,7 @@ use Rattle.refusal.specs.declared.Refusal.the-variants.{WrongLog}
 use Rattle.refusal.specs.declared.Part.the-variants.{Log}
 use Rattle.kit_run.specs.declared.KitRun as R
 use Rattle.kit_run.specs.KitRun.{kitRan}
-use Rattle.listing.specs.Listing.{refusedText, ofWords, listed, answerText, cyclesOf, HasCycles, Rooms}
+use Rattle.listing.specs.Listing.{refusedText, ofWords, said, listed, answerText, cyclesOf, HasCycles, Rooms}
 use Rattle.listing.proofs.Told.{Told, told}
 
 -- ---- the words of a kit's bytes, and their run
@@ -62,9 +62,9 @@ module _ (kit : List ℕ) {r : Bool} (asked : r ≡ wholeWords (length kit)) whe
       (leb-true (length kit) 65536 (two .0), eqb-true (length kit % 4) 0 (two .1))
 
   pub listed-whole : r ≡ true → ofWords (wordsOf kit) ≡ listed kit
-  unfolding listed
+  unfolding said
   listed-whole t = simp (sym asked ∙ t)
 
   pub listed-odd : r ≡ false → refusedText (WrongLog 0) Log ≡ listed kit
-  unfolding listed
+  unfolding said
   listed-odd t = simp (sym asked ∙ t)

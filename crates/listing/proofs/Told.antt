@@ -15,7 +15,7 @@ use Rattle.log.specs.Run.{linesOf, bothOf, byRecords, ranOf}
 use Rattle.kit_run.specs.KitRun.{KitRan, ofLog, byKit, kitRan}
 use Rattle.kit_run.proofs.Cycles.{seven-words, three-words}
 use Rattle.run_text.specs.RunText.{linesFrom}
-use Rattle.listing.specs.Listing.{byLog, byLists, ofWords, answerText, cyclesOf}
+use Rattle.listing.specs.Listing.{byLog, byLists, saidOf, textOf, ofWords, answerText, cyclesOf}
 
 -- what is told of a run: its text, and that its words are there
 abbrev pub Told : List ℕ → List ℕ → KitRan → Type 0
@@ -23,7 +23,7 @@ Told text out r = (answerText (r .answer) (r .out) ≡ text) × (3 * cyclesOf (r
 
 module _ (out : List ℕ) where
   module _ (a b : MachineData) (words : List ℕ) (short : length words ≤ 16384) (room : 3 * (length words / 7) ≤ length out) where
-    by-records : (l : LogRead) → logOf words ≡ l → Told (byLog a b l) out (ofLog (byRecords (freshChannel a) (freshChannel b) out l))
+    by-records : (l : LogRead) → logOf words ≡ l → Told (textOf (byLog a b l)) out (ofLog (byRecords (freshChannel a) (freshChannel b) out l))
     by-records (fault place) e = (refl, omega arith, refl)
     by-records (records rs) e =
         let seven = seven-words words rs e in
@@ -36,14 +36,14 @@ module _ (out : List ℕ) where
           omega (arith, length-append lines (drop (3 * length rs) out), three, length-drop (3 * length rs) out, seven, room),
         )
 
-    by-log : Told (byLog a b (logOf words)) out (ofLog (ranOf (freshChannel a) (freshChannel b) words out))
+    by-log : Told (textOf (byLog a b (logOf words))) out (ofLog (ranOf (freshChannel a) (freshChannel b) words out))
     unfolding ranOf
     by-log = simp (le-ltb 16384 (length words) short) (by-records (logOf words) refl)
 
   pub told : (words : List ℕ) → length words ≤ 16384 → 3 * (length words / 7) ≤ length out → Told (ofWords words) out (kitRan words out)
-  unfolding ofWords kitRan
+  unfolding saidOf kitRan
   told words short room = go (readKit words .answer)
     where
-      go : (x : K.KitAnswer) → Told (byLists words (readKit words) x) out (byKit words out (readKit words) x)
+      go : (x : K.KitAnswer) → Told (textOf (byLists words (readKit words) x)) out (byKit words out (readKit words) x)
       go (K.the-variants.Accepted at) = by-log (readKit words .a) (readKit words .b) (drop at words) (omega (arith, length-drop at words, short)) (omega (arith, length-drop at words, room))
       go (K.the-variants.Refused why part) = (refl, omega arith, refl)

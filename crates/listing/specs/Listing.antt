@@ -26,26 +26,39 @@ letterOf P.the-variants.ListA = 65
 letterOf P.the-variants.ListB = 66
 letterOf P.the-variants.Log = 76
 
--- "A refusal prints only one line: `refused`, number, place (both decimal) and A, B or L"
+-- "`refused`, number, place (both decimal) and A, B or L"
 abbrev pub refusedText : Refusal → P.Part → List ℕ
 refusedText why part = refusalLine (refusalNumber why) (refusalPlace why) (letterOf part)
 
--- the log's text: "the cycle from 1", or its refusal. A kit's log is never over 16,384 words, and the bench has room for it, so there is no 7
-abbrev pub byLog : MachineData → MachineData → LogRead → List ℕ
-byLog a b (records rs) = linesFrom 1 (linesOf a b (bothOf (freshChannel a) (freshChannel b)) rs)
-byLog a b (fault place) = refusedText (WrongLog place) P.the-variants.Log
+-- what the bench says of a kit: the words of its run, or a refusal
+pub data Said : Type 0 where
+  ran : List ℕ → Said
+  refused : Refusal → P.Part → Said
 
-abbrev pub byLists : List ℕ → KitRead → K.KitAnswer → List ℕ
+-- the log's run, or its refusal. A kit's log is never over 16,384 words, and the bench has room for it, so there is no 7
+abbrev pub byLog : MachineData → MachineData → LogRead → Said
+byLog a b (records rs) = ran (linesOf a b (bothOf (freshChannel a) (freshChannel b)) rs)
+byLog a b (fault place) = refused (WrongLog place) P.the-variants.Log
+
+abbrev pub byLists : List ℕ → KitRead → K.KitAnswer → Said
 byLists words r (K.the-variants.Accepted at) = byLog (r .a) (r .b) (logOf (drop at words))
-byLists words r (K.the-variants.Refused why part) = refusedText why part
+byLists words r (K.the-variants.Refused why part) = refused why part
 
 -- "It reads a kit (list A, list B, log; .."
-unfoldable pub ofWords : List ℕ → List ℕ
-ofWords words = byLists words (readKit words) (readKit words .answer)
+unfoldable pub saidOf : List ℕ → Said
+saidOf words = byLists words (readKit words) (readKit words .answer)
 
 -- "else number 6, place 0, L"
-unfoldable pub listed : List ℕ → List ℕ
-listed bytes = cond (wholeWords (length bytes)) (ofWords (wordsOf bytes)) (refusedText (WrongLog 0) P.the-variants.Log)
+unfoldable pub said : List ℕ → Said
+said bytes = cond (wholeWords (length bytes)) (saidOf (wordsOf bytes)) (refused (WrongLog 0) P.the-variants.Log)
+
+-- "A line is the cycle from 1, .."; "A refusal prints only one line"
+abbrev pub textOf : Said → List ℕ
+textOf (ran words) = linesFrom 1 words
+textOf (refused why part) = refusedText why part
+
+abbrev pub listed : List ℕ → List ℕ
+listed bytes = textOf (said bytes)
 
 -- how many cycles a kit's run has; a refused kit has none
 abbrev pub cyclesOf : R.KitRun → ℕ
@@ -58,6 +71,9 @@ toldOf (R.the-variants.Ran cycles) = 0 ∷ 0 ∷ 0 ∷ []
 toldOf (R.the-variants.Refused why part) = refusalNumber why ∷ refusalPlace why ∷ letterOf part ∷ []
 
 -- ---- of the private functions
+
+abbrev pub ofWords : List ℕ → List ℕ
+ofWords words = textOf (saidOf words)
 
 -- the text for a run's answer and the words that it left
 abbrev pub answerText : R.KitRun → List ℕ → List ℕ

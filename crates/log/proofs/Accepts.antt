@@ -17,14 +17,8 @@ use Rattle.records.specs.IsLog.{IsLog}
 use Rattle.records.proofs.Logs.{is-log}
 use Rattle.channel.specs.declared.Channel.{Channel}
 use Rattle.log.specs.declared.LogAnswer.the-variants.{Accepted}
+use Rattle.log.specs.IsAccepted.{IsAccepted}
 use Rattle.log.specs.Run.{refusing, running, byRecords, ranOf}
-
-pub record IsAccepted (words out : List ℕ) (n : ℕ) : Type 0 where
-  pub short : length words ≤ 16384
-  pub rs : List CycleRecord
-  pub log : IsLog rs words
-  pub cycles : n ≡ length rs
-  pub room : 3 * n ≤ length out
 
 pub accepted-log : (a b : Channel) (words out : List ℕ) (n : ℕ) → (ranOf a b words out .answer ≡ Accepted n) ↔ IsAccepted words out n
 unfolding ranOf
@@ -53,3 +47,8 @@ accepted-log a b words out n = (by-length (ltb 16384 (length words)) refl, back)
         ∙ ap (λ (l : LogRead). byRecords a b out l .answer) log
         ∙ ap (λ (t : Bool). cond t (refusing a b out (ShortOutput (3 * length (x .rs)))) (running a b out (x .rs)) .answer) (le-ltb (length out) (3 * length (x .rs)) room)
         ∙ ap Accepted (sym (x .cycles))
+
+-- the whole answer for an accepted log: "The number of cycles and both channels come back", and the output has its words
+pub accepted-runs : (a b : Channel) (words out : List ℕ) (rs : List CycleRecord) → length words ≤ 16_384 → IsLog rs words → 3 * length rs ≤ length out → ranOf a b words out ≡ running a b out rs
+unfolding ranOf
+accepted-runs a b words out rs short log room = simp (le-ltb 16384 (length words) short, is-log words rs .1 log, le-ltb (length out) (3 * length rs) room)

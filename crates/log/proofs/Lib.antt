@@ -3,4 +3,3 @@ pub mod Apart
 pub mod Going
 pub mod Answers
 pub mod Accepts
-pub mod Refuses

@@ -15,7 +15,7 @@ use Rattle.seven.specs.declared.CycleRecord.{CycleRecord}
 use Rattle.records.specs.declared.InputsRead as I
 use Rattle.records.specs.declared.Entry as E
 use Rattle.records.specs.Records.{inputsAt, onInputs, reading, endingAt, otherAt, entryAt}
-use Rattle.records.specs.IsFault.{aRecord}
+use Rattle.records.specs.IsLog.{aRecord}
 use Rattle.records.proofs.Parts.{remark-is}
 
 -- an answer says Bad where the words break off, and nowhere else

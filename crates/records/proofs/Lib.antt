@@ -3,4 +3,3 @@ pub mod Scanning
 pub mod BadEntry
 pub mod Logs
 pub mod Seven
-pub mod Faults

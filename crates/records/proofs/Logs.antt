@@ -14,9 +14,7 @@ use Rattle.words.specs.declared.Word.the-variants as W
 use Rattle.words.specs.Words.{wordAt}
 use Rattle.words.specs.IsWord.{IsWord}
 use Rattle.words.specs.Cases.{ifPosition}
-use Rattle.words.specs.Breaks.{a-remark, IsA, Breaks}
 use Rattle.words.proofs.IsWord.{read-at}
-use Rattle.words.proofs.Breaks.{lacks}
 use Rattle.words.proofs.Front.{present, behind, front-reads, front-is}
 use Rattle.words.proofs.Cases.{is-position, is-end}
 use Rattle.inputs.specs.declared.Reading.{Reading}
@@ -25,10 +23,8 @@ use Rattle.records.specs.declared.InputsRead as I
 use Rattle.records.specs.declared.Entry as E
 use Rattle.records.specs.Records.{inputsAt, onInputs, endingAt, otherAt, betweenOf, entryAt, LogRead, records, fault, before, logOf}
 use Rattle.records.specs.IsLog.{IsReading, reading, IsLog, end, remark, cycle}
-use Rattle.records.specs.IsFault.{aRecord, FaultAt, fault-at}
 use Rattle.records.proofs.Parts.{both-halves, halves, ending-is, other-is, entry-is, remark-is}
 use Rattle.records.proofs.Scanning.{read, record-there, Rest, at-record, at-remark, at-bad, at-end}
-use Rattle.records.proofs.BadEntry.{record-bad, bad-no-remark}
 
 -- ---- what is written is read
 
@@ -139,70 +135,49 @@ remark-at s at = go (wordAt s at) refl
     go W.Remark q e = refl
     go W.Other q e = never (cc)
 
-remark-word : (s : List ℕ) (at : ℕ) → entryAt s at ≡ E.the-variants.Remark → IsWord (getD s at 0) W.Remark
+pub remark-word : (s : List ℕ) (at : ℕ) → entryAt s at ≡ E.the-variants.Remark → IsWord (getD s at 0) W.Remark
 remark-word s at e = read-at s at (remark-at s at e) (λ y. never (cc))
 
--- ---- records or a fault
+-- ---- what is read was written, entry by entry
 
--- the place said in another way
-fault-behind : {rs : List CycleRecord} {front ws : List ℕ} {w m : ℕ} (p : ℕ) → IsLog rs front → (IsA a-remark w → ⊥) → Breaks aRecord (w ∷ ws) m → length front + m ≡ p → FaultAt (front ++ (w ∷ ws)) p
-fault-behind {front = front} {ws} {w} p log none breaks e = subst (FaultAt (front ++ (w ∷ ws))) e (fault-at log none breaks)
-
--- a remark or a record more in front
-behind-remark : {w p : ℕ} {ws : List ℕ} → IsWord w W.Remark → FaultAt ws p → FaultAt (w ∷ ws) (p + 1)
-behind-remark h (fault-at {front = front} {m = m} log none breaks) = fault-behind (length front + m + 1) (remark h log) none breaks (omega arith)
-
-behind-cycle : {a b : Reading} {ack : Bool} {w₁ w₂ w₃ w₄ w₅ w₆ w₇ p : ℕ} {ws : List ℕ} → IsReading a w₁ w₂ w₃ → IsReading b w₄ w₅ w₆ → IsWord w₇ (W.End ack) →
-    FaultAt ws p → FaultAt (w₁ ∷ w₂ ∷ w₃ ∷ w₄ ∷ w₅ ∷ w₆ ∷ w₇ ∷ ws) (p + 7)
-behind-cycle ha hb hz (fault-at {front = front} {m = m} log none breaks) = fault-behind (length front + m + 7) (cycle ha hb hz log) none breaks (omega arith)
-
--- what was read from a place on stands there
-pub data Parted (s : List ℕ) (at : ℕ) : LogRead → Type 0 where
-  whole : {rs : List CycleRecord} → IsLog rs (drop at s) → Parted s at (records rs)
-  faulty : {place : ℕ} (p : ℕ) → place ≡ at + p → FaultAt (drop at s) p → Parted s at (fault place)
-
-module _ (s : List ℕ) (at : ℕ) where
-  parted-end : length s ≤ at → Parted s at (records [])
-  parted-end h = whole (subst (IsLog []) (sym (drop-of-length-le s {i = at} h)) end)
-
-  parted-bad : {place : ℕ} → at < length s → entryAt s at ≡ E.the-variants.Bad place → Parted s at (fault place)
-  parted-bad {place} inside e =
-      let q = bad-no-remark s at place e in
-      let x = record-bad s at q place .0 e in
-      let first = front-is s at inside in
-      faulty (x .0) (x .1)
-      (subst (λ (ws : List ℕ). FaultAt ws (x .0)) (sym first)
-      (fault-behind (x .0) end (lacks a-remark s at q (getD s at 0) (drop (at + 1) s) first) (subst (λ (ws : List ℕ). Breaks aRecord ws (x .0)) first (x .2)) (omega arith)))
-
-  parted-remark : {l : LogRead} → at < length s → entryAt s at ≡ E.the-variants.Remark → Parted s (at + 1) l → Parted s at l
-  parted-remark inside e (whole {rs} log) = whole (subst (IsLog rs) (sym (front-is s at inside)) (remark (remark-word s at e) log))
-  parted-remark inside e (faulty {place} p q f) =
-      faulty {place = place} (p + 1) (omega arith) (subst (λ (ws : List ℕ). FaultAt ws (p + 1)) (sym (front-is s at inside)) (behind-remark (remark-word s at e) f))
-
-  parted-record : (r : CycleRecord) {l : LogRead} → entryAt s at ≡ E.the-variants.Record r → Parted s (at + 7) l → Parted s at (before r l)
-  parted-record r e (whole {rs} log) = whole (record-written s at r (IsLog (r ∷ rs)) e (λ w₁ w₂ w₃ w₄ w₅ w₆ w₇ a b z. cycle a b z log))
-  parted-record r e (faulty {place} p q f) =
-      faulty {place = place} (p + 7) (omega arith) (record-written s at r (λ (ws : List ℕ). FaultAt ws (p + 7)) e (λ w₁ w₂ w₃ w₄ w₅ w₆ w₇ a b z. behind-cycle a b z f))
-
-  -- by the entry that stands first, with what is read behind it
-  by-entry : (l : LogRead) → at < length s → Rest s at l → ((to : ℕ) (k : LogRead) → at < to → Rest s to k → Parted s to k) → (x : E.Entry) → entryAt s at ≡ x → Parted s at l
-  by-entry l inside rest more (E.the-variants.Record r) e =
+-- what is shown of the end, of a fault, and of an entry before what stands behind it, holds of all that is read from any place on
+module _ (s : List ℕ) (P : ℕ → LogRead → Type 0) (of-end : (at : ℕ) → length s ≤ at → P at (records []))
+    (of-fault : (at place : ℕ) → at < length s → entryAt s at ≡ E.the-variants.Bad place → P at (fault place))
+    (of-remark : (at : ℕ) (l : LogRead) → at < length s → entryAt s at ≡ E.the-variants.Remark → P (at + 1) l → P at l)
+    (of-record : (at : ℕ) (r : CycleRecord) (l : LogRead) → entryAt s at ≡ E.the-variants.Record r → P (at + 7) l → P at (before r l)) where
+  by-entry : (at : ℕ) (l : LogRead) → at < length s → Rest s at l → ((to : ℕ) (k : LogRead) → at < to → Rest s to k → P to k) → (x : E.Entry) → entryAt s at ≡ x → P at l
+  by-entry at l inside rest more (E.the-variants.Record r) e =
       let x = at-record s at l r inside e rest in
-      subst (Parted s at) (x .2) (parted-record r e (more (at + 7) (x .0) (omega arith) (x .1)))
-  by-entry l inside rest more E.the-variants.Remark e = parted-remark inside e (more (at + 1) l (omega arith) (at-remark s at l inside e rest))
-  by-entry l inside rest more (E.the-variants.Bad place) e = subst (Parted s at) (at-bad s at l inside e rest) (parted-bad inside e)
+      subst (P at) (x .2) (of-record at r (x .0) e (more (at + 7) (x .0) (omega arith) (x .1)))
+  by-entry at l inside rest more E.the-variants.Remark e = of-remark at l inside e (more (at + 1) l (omega arith) (at-remark s at l inside e rest))
+  by-entry at l inside rest more (E.the-variants.Bad place) e = subst (P at) (at-bad s at l inside e rest) (of-fault at place inside e)
 
-pub parted : (n : ℕ) (s : List ℕ) (at : ℕ) (l : LogRead) → length s ≤ at + n → Rest s at l → Parted s at l
-parted zero s at l far rest = subst (Parted s at) (at-end s at l (omega arith) rest) (parted-end s at (omega arith))
-parted (suc n) s at l far rest = by-length (ltb at (length s)) refl (λ to k h. parted n s to k (omega arith))
+  pub by-entries : (n at : ℕ) (l : LogRead) → length s ≤ at + n → Rest s at l → P at l
+  by-entries zero at l far rest = subst (P at) (at-end s at l (omega arith) rest) (of-end at (omega arith))
+  by-entries (suc n) at l far rest = by-length (ltb at (length s)) refl (λ to k h. by-entries n to k (omega arith))
+    where
+      by-length : (t : Bool) → ltb at (length s) ≡ t → ((to : ℕ) (k : LogRead) → at < to → Rest s to k → P to k) → P at l
+      by-length true q more = by-entry at l (ltb-true at (length s) q) rest more (entryAt s at) refl
+      by-length false q more = let h = ltb-false at (length s) q in subst (P at) (at-end s at l h rest) (of-end at h)
+
+-- records that were read from a place on stand there
+abbrev Stand : List ℕ → ℕ → LogRead → Type 0
+Stand s at (records rs) = IsLog rs (drop at s)
+Stand s at (fault place) = Unit
+
+log-written : (s : List ℕ) (rs : List CycleRecord) → logOf s ≡ records rs → IsLog rs s
+log-written s rs e =
+    by-entries s (Stand s) (λ at h. subst (IsLog []) (sym (drop-of-length-le s {i = at} h)) end) (λ at place inside q. tt) of-remark of-record (length s) 0 (records rs)
+    (omega arith) (length s, omega arith, e)
   where
-    by-length : (t : Bool) → ltb at (length s) ≡ t → ((to : ℕ) (k : LogRead) → at < to → Rest s to k → Parted s to k) → Parted s at l
-    by-length true q more = by-entry s at l (ltb-true at (length s) q) rest more (entryAt s at) refl
-    by-length false q more = let h = ltb-false at (length s) q in subst (Parted s at) (at-end s at l h rest) (parted-end s at h)
+    of-remark : (at : ℕ) (l : LogRead) → at < length s → entryAt s at ≡ E.the-variants.Remark → Stand s (at + 1) l → Stand s at l
+    of-remark at (records ks) inside q log = subst (IsLog ks) (sym (front-is s at inside)) (remark (remark-word s at q) log)
+    of-remark at (fault place) inside q x = tt
+
+    of-record : (at : ℕ) (r : CycleRecord) (l : LogRead) → entryAt s at ≡ E.the-variants.Record r → Stand s (at + 7) l → Stand s at (before r l)
+    of-record at r (records ks) q log = record-written s at r (IsLog (r ∷ ks)) q (λ w₁ w₂ w₃ w₄ w₅ w₆ w₇ a b z. cycle a b z log)
+    of-record at r (fault place) q x = tt
 
 -- "A log is cycle records", and remarks between them
 pub is-log : (s : List ℕ) (rs : List CycleRecord) → (logOf s ≡ records rs) ↔ IsLog rs s
-is-log s rs = (λ e. written (parted (length s) s 0 (records rs) (omega arith) (length s, omega arith, e)), log-reads s rs)
-  where
-    written : Parted s 0 (records rs) → IsLog rs s
-    written (whole log) = log
+is-log s rs = (log-written s rs, log-reads s rs)

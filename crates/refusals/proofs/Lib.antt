@@ -1,3 +1,7 @@
 pub mod Data
 pub mod Lists
 pub mod Kits
+pub mod LogFaults
+pub mod Logs
+pub mod KitRuns
+pub mod Bench

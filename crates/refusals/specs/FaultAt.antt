@@ -1,14 +1,10 @@
 -- Where a log is faulty, with nothing said of how it is read: the refusal table's "a word missing or wrong".
 use Prim.Native.Nat.{ℕ, _+_}
-use mathlib.Core.List.{List, [], _∷_, _++_}
+use mathlib.Core.List.{List, _∷_, _++_}
 use lib.ListN.{length}
-use Rattle.words.specs.Breaks.{Sort, a-position, a-lower, an-upper, an-end, a-remark, IsA, Breaks}
+use Rattle.words.specs.Breaks.{a-remark, IsA, Breaks}
 use Rattle.seven.specs.declared.CycleRecord.{CycleRecord}
-use Rattle.records.specs.IsLog.{IsLog}
-
--- "kinds 4, 5, 6 of A, the same of B, then 7"
-abbrev pub aRecord : List Sort
-aRecord = a-position ∷ a-lower ∷ an-upper ∷ a-position ∷ a-lower ∷ an-upper ∷ an-end ∷ []
+use Rattle.records.specs.IsLog.{aRecord, IsLog}
 
 -- "a word missing or wrong": its place in the log; "a missing word has the place behind the last one"
 pub data FaultAt : List ℕ → ℕ → Type 0 where

@@ -1,54 +1,57 @@
 -- `bench::main` meets its contract. Assumes nothing.
-use Prim.Native.Nat.{ℕ}
-use mathlib.Core.Path.{sym, _∙_}
+use mathlib.Core.Path.{sym, ap}
 use native.Mathlib.Omega.{arith}
-use lib.ListN.{length-replicate}
 use lib.Seq.{length-take-le}
+use Rattle.bench.specs.Input.{bytesOf}
 use borrow.Author.Needs.{needs}
 use Rattle.bench.proofs.main.Statement.{statement}
 use Rattle.bench.proofs.main.Tie as tie
 
-slice-aggregate-read-full : tie.Need-slice-aggregate-read-full
-slice-aggregate-read-full c = search needs
+slice-aggregate-read-all : tie.Need-slice-aggregate-read-all
+slice-aggregate-read-all c = search needs
 
-read-full-requires : tie.Need-read-full-requires
-read-full-requires c κs = search needs
+read-all-requires : tie.Need-read-all-requires
+read-all-requires c κs = search needs
 
-array-share-prefix-kit : tie.Need-array-share-prefix-kit
-array-share-prefix-kit c = search needs
+enum-known-many : tie.Need-enum-known-many
+enum-known-many c = search needs
 
-slice-aggregate-monitor-list-kit : tie.Need-slice-aggregate-monitor-list-kit
-slice-aggregate-monitor-list-kit c = search needs
+array-share-prefix-room : tie.Need-array-share-prefix-room
+array-share-prefix-room c = omega (arith, c .before .before .before .before .read-all .ensures, ap bytesOf (c .before .many .given .1))
 
-slice-aggregate-monitor-list-kit-2 : tie.Need-slice-aggregate-monitor-list-kit-2
-slice-aggregate-monitor-list-kit-2 c = search needs
+slice-aggregate-list : tie.Need-slice-aggregate-list
+slice-aggregate-list c = let l = c .before .before .before .before .before .read-all in sym (length-take-le (c .before .before .many .given .0 .0) (l .last .0) (omega (arith, l .ensures, ap bytesOf (c .before .before .many .given .1))))
 
-monitor-list-kit-requires : tie.Need-monitor-list-kit-requires
-monitor-list-kit-requires c κs = search needs
+list-requires : tie.Need-list-requires
+list-requires c κs = search needs
 
-array-share-prefix-text : tie.Need-array-share-prefix-text
-array-share-prefix-text c = search needs
+enum-told : tie.Need-enum-told
+enum-told c = search needs
 
-slice-aggregate-write-all : tie.Need-slice-aggregate-write-all
-slice-aggregate-write-all c = let l = c .before .before .monitor-list-kit in sym (length-take-le (l .result) (l .last .1 .0) (omega (arith, l .ensures .1 .1, l .kept .1 .0 ∙ length-replicate {A = ℕ} 74880 0)))
+slice-aggregate-fail : tie.Need-slice-aggregate-fail
+slice-aggregate-fail c = search needs
 
-write-all-requires : tie.Need-write-all-requires
-write-all-requires c κs = search needs
+fail-requires : tie.Need-fail-requires
+fail-requires c κs = search needs
 
 returns : tie.Need-returns
 returns c = search needs
+
+returns-2 : tie.Need-returns-2
+returns-2 c = search needs
 
 pub main-spec : {M : Type 1} → statement M
 main-spec =
     tie.close
     (tie.spec
-    slice-aggregate-read-full
-    read-full-requires
-    array-share-prefix-kit
-    slice-aggregate-monitor-list-kit
-    slice-aggregate-monitor-list-kit-2
-    monitor-list-kit-requires
-    array-share-prefix-text
-    slice-aggregate-write-all
-    write-all-requires
-    returns)
+    slice-aggregate-read-all
+    read-all-requires
+    enum-known-many
+    array-share-prefix-room
+    slice-aggregate-list
+    list-requires
+    enum-told
+    slice-aggregate-fail
+    fail-requires
+    returns
+    returns-2)

@@ -28,19 +28,19 @@ words-none (a ∷ b ∷ c ∷ []) h = refl
 words-none (a ∷ b ∷ c ∷ d ∷ l) h = absurd (omega (arith, h))
 
 -- i words are read
-pub record Reading (bytes out₀ out : List ℕ) (i : ℕ) : Type 0 where
+pub record WordsRead (bytes out₀ out : List ℕ) (i : ℕ) : Type 0 where
   pub inside : i ≤ length out₀
   pub there : 4 * i ≤ length bytes
   pub size : length out ≡ length out₀
   pub in-all : take i out ++ wordsOf (drop (4 * i) bytes) ≡ wordsOf bytes
   pub behind : drop i out ≡ drop i out₀
 
-pub nothing-read : (bytes out : List ℕ) → Reading bytes out out 0
+pub nothing-read : (bytes out : List ℕ) → WordsRead bytes out out 0
 nothing-read bytes out = record { inside = omega arith; there = omega arith; size = refl; in-all = refl; behind = refl }
 
-module _ {bytes out₀ out : List ℕ} {i : ℕ} (d : Reading bytes out₀ out i) where
+module _ {bytes out₀ out : List ℕ} {i : ℕ} (d : WordsRead bytes out₀ out i) where
   pub read-on : {v : ℕ} → i < length out → 4 * i + 3 < length bytes → v ≡ bigEndian (getD bytes (4 * i) 0) (getD bytes (4 * i + 1) 0) (getD bytes (4 * i + 2) 0) (getD bytes (4 * i + 3) 0) →
-      Reading bytes out₀ (set out i v) (i + 1)
+      WordsRead bytes out₀ (set out i v) (i + 1)
   read-on {v} more room e =
       let last : suc i ≡ i + 1 = omega arith in
       let far : 4 * i + 4 ≡ 4 * (i + 1) = omega arith in

@@ -4,12 +4,12 @@ use native.Mathlib.Omega.{arith}
 use denote.Ref.{now}
 use lib.ListN.{length}
 use borrow.Author.Needs.{needs}
-use Rattle.kit_bytes.proofs.Words.{Reading, nothing-read, read-on, all-room, all-words}
+use Rattle.kit_bytes.proofs.Words.{WordsRead, nothing-read, read-on, all-room, all-words}
 use Rattle.kit_bytes.proofs.read_words.Statement.{statement}
 use Rattle.kit_bytes.proofs.read_words.Tie as tie
 
 abbrev Inv-loop : tie.InvT-loop
-Inv-loop bytes out₀ i₀ out i = Reading bytes out₀ out i
+Inv-loop bytes out₀ i₀ out i = WordsRead bytes out₀ out i
 
 abbrev μ-loop : tie.MeasureT-loop
 μ-loop bytes out₀ i₀ out i = length out₀ - i

@@ -1,7 +1,7 @@
 -- A datum by what was read of its words, its units by what it is, and its value by both. Assumes nothing.
 use mathlib.Core.Path.{_≡_, refl, sym, ap, _∙_, subst}
 use mathlib.Core.List.{List, [], _∷_}
-use mathlib.Core.Bool.{Bool, cond}
+use mathlib.Core.Bool.{Bool, true, false, cond}
 use Prim.Native.Nat.{ℕ, zero, suc, _+_, _*_, _^_, _≤_, _<_}
 use native.Mathlib.Omega.{arith}
 use lib.ListN.{length}
@@ -27,7 +27,7 @@ use Rattle.datum.specs.declared.Pieces as P
 use Rattle.datum.specs.declared.DatumRead as R
 use Rattle.datum.specs.declared.Units as U
 use Rattle.datum.specs.declared.DatumAnswer as A
-use Rattle.datum.specs.Datum.{piecesAt, formPieces, inForm, onPieces, formAt, datumAt, ofWhole, unitsOf, ofUnits, ofRead, valueAt}
+use Rattle.datum.specs.Datum.{piecesAt, formPieces, inForm, onPieces, formAt, datumAt, ofWhole, unitsOf, ofUnits, ofRead, valueAt, behindOf}
 use Rattle.datum.proofs.Joined.{joined-small}
 
 pub few-pieces : (f : ℕ) → formPieces f ≤ 4
@@ -60,6 +60,18 @@ pub form-is : (f : ℕ) (s : List ℕ) (at : ℕ) {x : P.Pieces} → piecesAt s 
 unfolding formAt
 form-is f s at e = sym (ap (λ (x : P.Pieces). onPieces x (inForm f) (at + formPieces f)) e)
 
+pub by-pieces : (f : ℕ) (s : List ℕ) (at : ℕ) {n : ℕ} → n ≡ formPieces f → {x : P.Pieces} → piecesAt s at n 0 ≡ x → onPieces x (inForm f) (at + n) ≡ formAt f s at
+by-pieces f s at e {x} p =
+    ap (λ (i : ℕ). onPieces x (inForm f) (at + i)) e ∙ form-is f s at (ap (λ (i : ℕ). piecesAt s at i 0) (sym e) ∙ p)
+
+-- any form past 2 goes as 3 does
+pub open-same : (f : ℕ) (s : List ℕ) (at : ℕ) → (f ≡ 0 → ⊥) → (f ≡ 1 → ⊥) → (f ≡ 2 → ⊥) → formAt 3 s at ≡ formAt f s at
+unfolding formAt
+open-same zero s at a b c = absurd (a refl)
+open-same (suc zero) s at a b c = absurd (b refl)
+open-same (suc (suc zero)) s at a b c = absurd (c refl)
+open-same (suc (suc (suc f))) s at a b c = refl
+
 pub datum-there : (s : List ℕ) (at : ℕ) {n form : ℕ} → wordAt s at ≡ W.Datum n form → at < length s
 datum-there s at h = there s at (λ e. never (cc))
 
@@ -81,13 +93,6 @@ module _ (s : List ℕ) (k at : ℕ) where
     pub of-form : n ≡ k → formAt form s (at + 1) ≡ datumAt s k at
     unfolding datumAt by-number
     of-form h = sym (ap (λ (y : Word). ifDatum y by-number (R.the-variants.Bad at)) word ∙ simp (eq-eqb n k h))
-
-    -- and so by what its pieces gave
-    pub of-pieces : n ≡ k → {m : ℕ} → m ≡ formPieces form → {x : P.Pieces} → piecesAt s (at + 1) m 0 ≡ x → onPieces x (inForm form) (at + 1 + m) ≡ datumAt s k at
-    of-pieces h {m} e {x} p =
-        ap (λ (i : ℕ). onPieces x (inForm form) (at + 1 + i)) e
-        ∙ form-is form s (at + 1) (ap (λ (i : ℕ). piecesAt s (at + 1) i 0) (sym e) ∙ p)
-        ∙ of-form h
 
 -- ---- the units of a datum
 
@@ -127,3 +132,52 @@ module _ (s : List ℕ) (k at : ℕ) where
         (λ i. cond (sym r i) (A.the-variants.Value (same i) next) (A.the-variants.Refused (OutOfRange at)))
         ∙ ap (λ (v : ℤ). cond (inRange k v) (A.the-variants.Value z next) (A.the-variants.Refused (OutOfRange at))) same
         ∙ by-units e
+
+-- ---- the place behind a datum
+
+module _ (s : List ℕ) (at : ℕ) where
+  behind-by : ℕ → ℕ → ℕ
+  behind-by n form = at + 1 + formPieces form
+
+  pub no-datum-behind : {x : Word} → x ≡ wordAt s at → OneOf (0 ∷ 2 ∷ 3 ∷ 4 ∷ 5 ∷ 6 ∷ 7 ∷ 8 ∷ []) (tagOf the-type x) → at ≡ behindOf s at
+  unfolding behindOf behind-by
+  no-datum-behind {x} e h = no-datum x h behind-by at ∙ ap (λ (y : Word). ifDatum y behind-by at) e
+
+  pub datum-behind : {n form : ℕ} → wordAt s at ≡ W.Datum n form → at + 1 + formPieces form ≡ behindOf s at
+  unfolding behindOf behind-by
+  datum-behind word = sym (ap (λ (y : Word). ifDatum y behind-by at) word)
+
+in-range-next : (t : Bool) (at next : ℕ) (y z : ℤ) {n : ℕ} → cond t (A.the-variants.Value y next) (A.the-variants.Refused (OutOfRange at)) ≡ A.the-variants.Value z n → next ≡ n
+in-range-next true at next y z e = cc
+in-range-next false at next y z e = never (cc)
+
+units-next : (k at next : ℕ) (u : U.Units) {z : ℤ} {n : ℕ} → ofUnits k at next u ≡ A.the-variants.Value z n → next ≡ n
+units-next k at next (U.the-variants.Are y) {z} e = in-range-next (inRange k y) at next y z e
+units-next k at next (U.the-variants.Refused why) e = never (cc)
+
+pieces-next : (k at f next : ℕ) (x : P.Pieces) {z : ℤ} {n : ℕ} → ofRead k at (onPieces x (inForm f) next) ≡ A.the-variants.Value z n → next ≡ n
+pieces-next k at f next (P.the-variants.Bits b) e = units-next k at next (unitsOf (inForm f b) at) e
+pieces-next k at f next (P.the-variants.Bad place) e = never (cc)
+
+number-next : (s : List ℕ) (k at f : ℕ) (t : Bool) {z : ℤ} {n : ℕ} → ofRead k at (cond t (formAt f s (at + 1)) (R.the-variants.Bad at)) ≡ A.the-variants.Value z n → at + 1 + formPieces f ≡ n
+unfolding formAt
+number-next s k at f true e = pieces-next k at f (at + 1 + formPieces f) (piecesAt s (at + 1) (formPieces f) 0) e
+number-next s k at f false e = never (cc)
+
+-- a datum that is read ends where its form says
+pub value-behind : (s : List ℕ) (k at : ℕ) {z : ℤ} {n : ℕ} → valueAt s k at ≡ A.the-variants.Value z n → behindOf s at ≡ n
+unfolding valueAt datumAt behindOf
+value-behind s k at {z} {n} = go (wordAt s at)
+  where
+    go : (w : Word) →
+        ofRead k at (ifDatum w (λ m form. cond (eqb m k) (formAt form s (at + 1)) (R.the-variants.Bad at)) (R.the-variants.Bad at)) ≡ A.the-variants.Value z n →
+        ifDatum w (λ m form. at + 1 + formPieces form) at ≡ n
+    go (W.Head v) e = never (cc)
+    go (W.Datum m form) e = number-next s k at form (eqb m k) e
+    go (W.Piece b) e = never (cc)
+    go (W.Position p) e = never (cc)
+    go (W.Lower b) e = never (cc)
+    go (W.Upper b) e = never (cc)
+    go (W.End a) e = never (cc)
+    go W.Remark e = never (cc)
+    go W.Other e = never (cc)

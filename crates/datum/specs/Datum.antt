@@ -48,6 +48,10 @@ unfoldable pub datumAt : List ℕ → ℕ → ℕ → R.DatumRead
 datumAt s k at =
     ifDatum (wordAt s at) (λ n form. cond (eqb n k) (formAt form s (at + 1)) (R.the-variants.Bad at)) (R.the-variants.Bad at)
 
+-- the place behind the datum whose own word stands at `at`: its pieces are as many as its form says
+unfoldable pub behindOf : List ℕ → ℕ → ℕ
+behindOf s at = ifDatum (wordAt s at) (λ n form. at + 1 + formPieces form) at
+
 -- "float stands for no whole number": at its kind 2 word
 abbrev pub ofWhole : ℕ → H.Whole → U.Units
 ofWhole at (H.the-variants.Is z) = U.the-variants.Are z

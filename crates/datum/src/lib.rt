@@ -1,7 +1,7 @@
 // A datum of a list: its words in one of the forms, and the whole units that it stands for, within its range.
 ghost use mathlib.Core.Path.{_≡_};
 ghost use Prim.Native.Nat.{_≤_, _<_, _*_, _^_};
-ghost use Rattle.datum.specs.Datum.{piecesAt, formPieces, inForm, datumAt, unitsOf, valueAt};
+ghost use Rattle.datum.specs.Datum.{piecesAt, behindOf, formAt, formPieces, inForm, datumAt, unitsOf, valueAt};
 use refusal::Refusal;
 use whole::Whole;
 use words::Word;
@@ -82,6 +82,17 @@ fn in_form(form: u8, bits: u64) -> Datum
     }
 }
 
+// A form's pieces as a datum. The number of pieces is given by whoever knows the form, so that the code of each form is its own.
+fn form_at(words: &[u32], at: usize, form: u8, n: usize) -> DatumRead
+    requires { ⌜ n ≡ formPieces form ⌝ }
+    ensures { λ r. ⌜ r ≡ formAt form (now (words .entry)) at ⌝ }
+{
+    match pieces_at(words, at, n) {
+        Pieces::Bits(bits) => DatumRead::Datum(in_form(form, bits), at + n),
+        Pieces::Bad(place) => DatumRead::Bad(place),
+    }
+}
+
 // Datum k, whose own word stands at a place and its pieces behind it.
 fn datum_at(words: &[u32], k: usize, at: usize) -> DatumRead
     ensures { λ r. ⌜ r ≡ datumAt (now (words .entry)) k at ⌝ }
@@ -92,11 +103,22 @@ fn datum_at(words: &[u32], k: usize, at: usize) -> DatumRead
     if number as usize != k {
         return DatumRead::Bad(at);
     }
-    let n = pieces_of(form);
-    match pieces_at(words, at + 1, n) {
-        Pieces::Bits(bits) => DatumRead::Datum(in_form(form, bits), at + 1 + n),
-        Pieces::Bad(place) => DatumRead::Bad(place),
+    match form {
+        0 => form_at(words, at + 1, 0, 2),
+        1 => form_at(words, at + 1, 1, 2),
+        2 => form_at(words, at + 1, 2, 4),
+        _ => form_at(words, at + 1, 3, 0),
     }
+}
+
+// The place behind a datum whose own word stands at a place, by its form alone.
+pub fn behind(words: &[u32], at: usize) -> usize
+    ensures { λ r. ⌜ r ≡ behindOf (now (words .entry)) at ⌝ }
+{
+    let Word::Datum(_, form) = words::word_at(words, at) else {
+        return at;
+    };
+    at + 1 + pieces_of(form)
 }
 
 // The whole units that a datum stands for, whose own word stands at a place.

@@ -14,6 +14,7 @@ use lib.Ieee.Fits.{and-l}
 use Rattle.machine_data.specs.Table.{dataCount, lowOf, highOf, inRange}
 use Rattle.datum.specs.declared.DatumAnswer as D
 use Rattle.datum.proofs.Written.{written-reads}
+use Rattle.datum.proofs.Forms.{value-behind}
 use Rattle.list.specs.Reading.{placeOf, ends, onValue, gather, zeros}
 use Rattle.list.specs.IsList.{DataTo, end, datum}
 use Rattle.list.proofs.Steps.{next-place}
@@ -78,7 +79,7 @@ place-from : {j k : ℕ} {vs : List ℤ} {ws : List ℕ} → DataTo j k vs ws �
 place-from end s rest e = omega arith
 place-from (datum {k} {w = w} {ws} h r x) s rest e =
     let e′ : drop (placeOf s k) s ≡ w ++ (ws ++ rest) = e ∙ append-assoc w ws rest in
-    let next : placeOf s k + length w ≡ placeOf s (suc k) = next-place s k {at = placeOf s k} refl (sym (written-reads h r s (placeOf s k) (ws ++ rest) e′)) ∙ ap (placeOf s) (add-one k) in
+    let next : placeOf s k + length w ≡ placeOf s (suc k) = sym (value-behind s k (placeOf s k) (written-reads h r s (placeOf s k) (ws ++ rest) e′)) ∙ next-place s k refl ∙ ap (placeOf s) (add-one k) in
     let far = place-from x s rest (ap (λ (i : ℕ). drop i s) (sym next) ∙ behind s (placeOf s k) w (ws ++ rest) e′) in
     omega (arith, far, next, length-append w ws)
 

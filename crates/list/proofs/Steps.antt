@@ -28,9 +28,9 @@ use Rattle.words.proofs.Cases.{no-head}
 use Rattle.machine_data.specs.Table.{dataCount}
 use Rattle.machine_data.specs.declared.MachineData.{MachineData}
 use Rattle.datum.specs.declared.DatumAnswer as D
-use Rattle.datum.specs.Datum.{valueAt}
+use Rattle.datum.specs.Datum.{valueAt, behindOf}
 use Rattle.list.specs.Rules.{isHead, seBelow}
-use Rattle.list.specs.Reading.{acceptedList, refusedList, nextOf, placeOf, ends, onValue, gather, zeros, readList}
+use Rattle.list.specs.Reading.{acceptedList, refusedList, placeOf, ends, onValue, gather, zeros, readList}
 use Rattle.list.specs.declared.ListRead.{ListRead}
 
 -- ---- the head
@@ -82,9 +82,9 @@ module _ (s : List ℕ) (count k at : ℕ) (vs : List ℤ) {r : ListRead} (inv :
 -- ---- the place of a datum
 
 module _ (s : List ℕ) (k : ℕ) where
-  pub next-place : {at : ℕ} → at ≡ placeOf s k → {x : D.DatumAnswer} → x ≡ valueAt s k at → nextOf x at ≡ placeOf s (k + 1)
+  pub next-place : {at : ℕ} → at ≡ placeOf s k → behindOf s at ≡ placeOf s (k + 1)
   unfolding placeOf
-  next-place {at} e h = ap (λ (y : D.DatumAnswer). nextOf y at) h ∙ ap (λ (i : ℕ). nextOf (valueAt s k i) i) e ∙ ap (placeOf s) (sym (add-one k))
+  next-place e = ap (behindOf s) e ∙ ap (placeOf s) (sym (add-one k))
 
 -- ---- the end of a list
 

@@ -11,7 +11,7 @@ use Rattle.words.specs.Cases.{ifHead}
 use Rattle.machine_data.specs.Table.{dataCount}
 use Rattle.machine_data.specs.declared.MachineData.{MachineData}
 use Rattle.datum.specs.declared.DatumAnswer as D
-use Rattle.datum.specs.Datum.{valueAt}
+use Rattle.datum.specs.Datum.{valueAt, behindOf}
 use Rattle.list.specs.Rules.{isHead, seBelow}
 use Rattle.list.specs.declared.ListRead.{ListRead}
 use Rattle.list.specs.declared.ListAnswer as A
@@ -26,14 +26,10 @@ acceptedList d n = record { answer = A.the-variants.Accepted n; list = d }
 abbrev pub refusedList : Refusal → ListRead
 refusedList why = record { answer = A.the-variants.Refused why; list = record { values = zeros; count = 0 } }
 
--- the place of datum k's own word; nothing stands behind a datum that is refused
-abbrev pub nextOf : D.DatumAnswer → ℕ → ℕ
-nextOf (D.the-variants.Value z next) at = next
-nextOf (D.the-variants.Refused why) at = at
-
+-- the place of datum k's own word
 unfoldable pub placeOf : List ℕ → ℕ → ℕ
 placeOf s zero = 1
-placeOf s (suc k) = nextOf (valueAt s k (placeOf s k)) (placeOf s k)
+placeOf s (suc k) = behindOf s (placeOf s k)
 
 -- "SE minus not below its plus", at the minus datum; "then 5, SE1 first"
 unfoldable pub ends : List ℕ → MachineData → ℕ → ListRead

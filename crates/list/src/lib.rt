@@ -3,7 +3,7 @@ ghost use mathlib.Core.Path.{_≡_};
 ghost use Prim.Native.Nat.{_≤_};
 ghost use Rattle.machine_data.specs.Table.{dataCount};
 ghost use Rattle.list.specs.Rules.{isHead};
-ghost use Rattle.list.specs.Reading.{nextOf, placeOf, refusedList, ends, gather, zeros, readList};
+ghost use Rattle.list.specs.Reading.{placeOf, refusedList, ends, gather, zeros, readList};
 use datum::DatumAnswer;
 use machine_data::DATA;
 use machine_data::MachineData;
@@ -45,24 +45,14 @@ fn refused(why: Refusal) -> ListRead
     }
 }
 
-// The place behind a datum; nothing stands behind one that is refused.
-fn next_of(answer: DatumAnswer, at: usize) -> usize
-    ensures { λ r. ⌜ r ≡ nextOf answer at ⌝ }
-{
-    match answer {
-        DatumAnswer::Value(_, next) => next,
-        DatumAnswer::Refused(_) => at,
-    }
-}
-
-// The place of datum k's own word, where the data before it are sound.
+// The place of datum k's own word, by the forms of the data before it: the way of a sound list alone needs no place.
 fn place_of(words: &[u32], k: usize) -> usize
     ensures { λ r. ⌜ r ≡ placeOf (now (words .entry)) k ⌝ }
 {
     let mut at = 1usize;
     let mut i = 0usize;
     while i < k {
-        at = next_of(datum::value_at(words, i, at), at);
+        at = datum::behind(words, at);
         i += 1;
     }
     at

@@ -19,11 +19,8 @@ loop-holds : tie.Need-loop-holds Inv-loop μ-loop
 unfolding placeOf
 loop-holds c = (search needs, refl)
 
-value-at-requires : tie.Need-value-at-requires Inv-loop μ-loop
-value-at-requires c κs = search needs
-
-next-of-requires : tie.Need-next-of-requires Inv-loop μ-loop
-next-of-requires c κs = search needs
+behind-requires : tie.Need-behind-requires Inv-loop μ-loop
+behind-requires c κs = search needs
 
 add-i : tie.Need-add-i Inv-loop μ-loop
 add-i c = search needs
@@ -32,10 +29,7 @@ loop-less : tie.Need-loop-less Inv-loop μ-loop
 loop-less c = search needs
 
 loop-again : tie.Need-loop-again Inv-loop μ-loop
-loop-again c = let l = c .before .before .before .loop in (
-  search needs,
-  c .next-of .ensures ∙ next-place (now (c .before .before .before .before .before .args .words)) (l .i) (l .inv .1) (c .before .value-at .ensures),
-)
+loop-again c = (search needs, c .behind .ensures ∙ next-place _ _ (c .before .before .loop .inv .1))
 
 returns : tie.Need-returns Inv-loop μ-loop
 returns c =
@@ -50,8 +44,7 @@ place-of-spec =
     Inv-loop
     μ-loop
     loop-holds
-    value-at-requires
-    next-of-requires
+    behind-requires
     add-i
     loop-less
     loop-again

@@ -22,16 +22,16 @@ fn cam(values: &Values, reading: Reading, n: usize, before: bool) -> bool
 }
 
 // The eight signals as the bits of a number, the first lowest.
-pub fn next(values: &Values, reading: Reading, before: u8) -> u8
+pub fn next(values: &Values, reading: Reading, before: u32) -> u32
     ensures { λ r. ⌜ r ≡ camsNext (now (values .entry)) (reading .position) before ⌝ }
 {
     let mut signals = 0u32;
     let mut n = 0u32;
     while n < 8 {
-        if cam(values, reading, n as usize, bits::bit(before as u32, n)) {
+        if cam(values, reading, n as usize, bits::bit(before, n)) {
             signals += 1 << n;
         }
         n += 1;
     }
-    signals as u8
+    signals
 }

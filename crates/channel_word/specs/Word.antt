@@ -48,9 +48,9 @@ pub record Parts (effective cancelled sg slow rank held fault : ℕ) : Type 0 wh
   pub one-held : held ≤ 1
   pub one-fault : fault ≤ 1
 
--- "Cams and n<nx show 0 while their function is off"
+-- "Cams and n<nx show 0 while their function is off"; there are eight cams
 abbrev pub shownCams : List ℤ → ℕ → ℕ
-shownCams d cams = cond (functionOf d 2) cams 0
+shownCams d cams = cond (functionOf d 2) (cams % 256) 0
 
 abbrev pub shownSlow : List ℤ → Bool → Bool
 shownSlow d slow = functionOf d 3 && slow

@@ -46,11 +46,11 @@ fn is_held(s: Stop) -> bool
 }
 
 // The cams, while their function is on.
-fn shown_cams(values: &Values, cams: u8) -> u8
+fn shown_cams(values: &Values, cams: u32) -> u8
     ensures { λ r. ⌜ r ≡ shownCams (now (values .entry)) cams ⌝ }
 {
     if machine_data::function(values, functions::CAMS) {
-        cams
+        (cams % 256) as u8
     } else {
         0
     }
@@ -98,7 +98,7 @@ pub fn channel_word(
     effective: Selection,
     stop: Stop,
     fault: bool,
-    cams: u8,
+    cams: u32,
     slow: bool,
 ) -> u32
     ensures { λ r. ⌜ r ≡ wordBy (now (values .entry)) effective stop fault cams slow ⌝ }

@@ -32,7 +32,6 @@ use Rattle.demand_2.proofs.Demand2.{no-weaker, cause-met}
 use Rattle.demand_3.proofs.Stops.{Grown, grown, off-grown, Counting, WellFormed, counting, formed}
 use Rattle.demand_3.proofs.OfCauses.{no-stronger, makes-fresh}
 use Rattle.demand_3.proofs.OfComparison.{brightness, Lit, lit, expires}
-use Rattle.cams.proofs.Signals.{cams-small}
 use Rattle.demand_3.proofs.OfSelection.{selected-number, effective-one-of, delay-next}
 
 -- what every state has before a cycle, with the list in force in it
@@ -41,7 +40,6 @@ pub record Ready (m : MachineData) (s : State) : Type 0 where
   pub left : s .kept .fault .left ≤ numberOf (m .values) 34
   pub delay : s .kept .choice .left ≤ max 1 (numberOf (m .values) 27)
   pub numbered : sgLessOne (s .kept .choice .effective) < 4
-  pub cams : s .kept .cams < 256
 
 -- what every state has that a cycle leaves
 pub record Sound (m : MachineData) (s : State) : Type 0 where
@@ -50,13 +48,12 @@ pub record Sound (m : MachineData) (s : State) : Type 0 where
   pub expired : 2000 ≤ brightness (s .kept .fault) → 4 ≤ levelOf (s .stop)
   pub delay : s .kept .choice .left ≤ max 1 (numberOf (m .values) 27)
   pub numbered : sgLessOne (s .kept .choice .effective) < 4
-  pub cams : s .kept .cams < 256
 
 pub ready : {m : MachineData} {s : State} → Sound m s → Ready m s
-ready q = record { counting = counting (q .formed); left = q .left; delay = q .delay; numbered = q .numbered; cams = q .cams }
+ready q = record { counting = counting (q .formed); left = q .left; delay = q .delay; numbered = q .numbered }
 
 pub fresh-ready : (m : MachineData) → Ready m freshState
-fresh-ready m = record { counting = Counting.free; left = omega arith; delay = omega arith; numbered = omega arith; cams = omega arith }
+fresh-ready m = record { counting = Counting.free; left = omega arith; delay = omega arith; numbered = omega arith }
 
 -- how near the end of F, or of the pulses, a state is: 2000 at the end
 unfoldable pub alarm : State → ℕ
@@ -152,11 +149,10 @@ module _ (m : MachineData) (s : State) (g : Given) where
             expired = simp u at (ended u (clearsIn m s g) refl);
             delay = delay-next d (s .kept .choice) _ _ (q .delay);
             numbered = effective-one-of (λ x. sgLessOne x < 4) d (s .kept .choice) _ _ (selected-number d (g .reading .inputs)) (q .numbered);
-            cams = cams-small d (g .reading .position) (s .kept .cams);
           })
       go false u =
           simp u
-          (record { formed = WellFormed.cancelled; left = q .left; expired = λ _. omega arith; delay = q .delay; numbered = q .numbered; cams = q .cams })
+          (record { formed = WellFormed.cancelled; left = q .left; expired = λ _. omega arith; delay = q .delay; numbered = q .numbered })
 
   -- ---- F, where nothing is cleared
 

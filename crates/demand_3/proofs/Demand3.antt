@@ -45,7 +45,7 @@ module _ (L : ℕ → MachineData) (S : ℕ → State) (G : ℕ → Given) (goes
   unfolding word
   shown-at n l =
       let s = H.sound-at L S G goes n in
-      subst (λ w. Shows w (stateAfter L S G n)) (sym (gave n l .word-is)) (shows (L n .values) (stateAfter L S G n) _ (s .cams) (s .numbered))
+      subst (λ w. Shows w (stateAfter L S G n)) (sym (gave n l .word-is)) (shows (L n .values) (stateAfter L S G n) _ (s .numbered))
 
   device-least : (n : ℕ) → n < size → level n ≤ rankInDevice (device n)
   device-least n l = omega (arith, shown-at n l .word-rank, gave n l .over .least)

@@ -109,13 +109,13 @@ shown-sg Nothing h = refl
 shown-sg (Sg n o) h = mod-eq-of-lt h
 shown-sg Sbh h = refl
 
-pub shows : (d : List ℤ) (s : State) (slow : Bool) → s .kept .cams < 256 → sgLessOne (s .kept .choice .effective) < 4 → Shows (shownWord d s slow) s
+pub shows : (d : List ℤ) (s : State) (slow : Bool) → sgLessOne (s .kept .choice .effective) < 4 → Shows (shownWord d s slow) s
 unfolding wordBy
-shows d s slow c g =
+shows d s slow g =
     let sg = shown-sg (s .kept .choice .effective) g in
     let p = parts (isEffective (s .kept .choice .effective)) (eqb (levelOf (s .stop)) 5) (functionOf d 3 && slow) (isHeld (s .stop)) (s .kept .fault .on)
     (shownCams d (s .kept .cams)) (shownSg (s .kept .choice .effective)) (levelOf (s .stop))
-    (if-case (λ k. k < 256) (functionOf d 2) _ _ (λ _. c) (λ _. omega arith)) (omega arith) (rank-le (rankOf (s .stop))) refl in
+    (if-case (λ k. k < 256) (functionOf d 2) _ _ (λ _. omega arith) (λ _. omega arith)) (omega arith) (rank-le (rankOf (s .stop))) refl in
     record {
       rank = p .is-rank;
       word-rank = p .is-word-rank;

@@ -11,8 +11,8 @@ use stop::Stop;
 
 // What an unusable cycle leaves alone.
 pub struct Kept {
-    // the cam signals as bits, in data order
-    pub cams: u8,
+    // the cam signals as bits, in data order. A whole word: behind a single byte the choice would be kept in pieces
+    pub cams: u32,
     pub choice: Choice,
     // usable cycles running in which the input words differ
     pub differing: u32,

@@ -7,7 +7,7 @@ use mathlib.Core.Logic.{⊎-elim}
 use native.Mathlib.Omega.{arith}
 use borrow.Author.Needs.{needs}
 use Rattle.cams.specs.Cams.{camOf, camsUpTo}
-use Rattle.cams.proofs.Signals.{cams-small, up-to-low, turn-on, turn-off}
+use Rattle.cams.proofs.Signals.{up-to-low, turn-on, turn-off}
 use Rattle.cams.proofs.next.Statement.{statement}
 use Rattle.cams.proofs.next.Tie as tie
 
@@ -61,10 +61,6 @@ loop-again c =
           (c .if1 .came),
     )
 
-cast-result : tie.Need-cast-result Inv-loop μ-loop
-cast-result c = let k = c .before .before .args in let e : c .before .loop .n ≡ 8 = omega arith in
-    record { fits = rw (c .before .loop .inv .1, e) (cams-small (k .values .now) (k .reading .position) (k .before)) }
-
 returns : tie.Need-returns Inv-loop μ-loop
 returns c = let e : c .before .loop .n ≡ 8 = omega arith in c .before .loop .inv .1 ∙ rw e
 
@@ -83,5 +79,4 @@ next-spec =
     add-n
     loop-less
     loop-again
-    cast-result
     returns)

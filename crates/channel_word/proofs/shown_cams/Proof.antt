@@ -7,6 +7,9 @@ use Rattle.channel_word.proofs.shown_cams.Tie as tie
 function-requires : tie.Need-function-requires
 function-requires c κs = search needs
 
+cast-result : tie.Need-cast-result
+cast-result c = search needs
+
 returns : tie.Need-returns
 returns c = simp (sym (c .before .function .ensures) ∙ c .if1 .taken)
 
@@ -14,4 +17,4 @@ returns-2 : tie.Need-returns-2
 returns-2 c = simp (sym (c .before .function .ensures) ∙ c .if1 .left)
 
 pub shown-cams-spec : {M : Type 1} → statement M
-shown-cams-spec = tie.close (tie.spec function-requires returns returns-2)
+shown-cams-spec = tie.close (tie.spec function-requires cast-result returns returns-2)

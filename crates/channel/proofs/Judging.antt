@@ -9,7 +9,6 @@ use Rattle.causes.proofs.Codes.{lists}
 use Rattle.state.specs.declared.State.{State}
 use Rattle.state.specs.declared.Given.{Given}
 use Rattle.judge.specs.Causes.{usableRows, rowsOf, findingsOf}
-use Rattle.channel.specs.declared.Advanced.{Advanced}
 use Rattle.channel.specs.Cycle.{strongestIn, clearsIn, next}
 use Rattle.channel.specs.Word.{word, advancedBy, advancedUnusable}
 use Rattle.channel.specs.Ensures.{AdvanceEnsures}

@@ -2,6 +2,5 @@ pub mod Twos
 pub mod IsWord
 pub mod Cases
 pub mod Front
-pub mod Absurd
 pub mod Breaks
 pub mod Breaking

@@ -1,3 +1,4 @@
+-- `bits::bit` meets its contract: a word of 32 bits has no bit past 31. Assumes nothing.
 use native.Mathlib.Nat.{div-eq-of-lt, lt-of-lt-of-le}
 use lib.Pow.{pow-mono}
 use Rattle.bits.specs.Bits.{bitOf}
@@ -5,16 +6,13 @@ use borrow.Author.Needs.{needs}
 use Rattle.bits.proofs.bit.Statement.{statement}
 use Rattle.bits.proofs.bit.Tie as tie
 
--- src/lib.rt:10:10
 shr-result : tie.Need-shr-result
 shr-result c = search needs
 
--- src/lib.rt:6:1
 returns : tie.Need-returns
 unfolding bitOf
 returns c = search needs
 
--- src/lib.rt:6:1
 returns-2 : tie.Need-returns-2
 unfolding bitOf
 returns-2 c = let s = c .before in simp (div-eq-of-lt (lt-of-lt-of-le (s .fits .word .fits) (pow-mono {i = 32} (c .if1 .left))))

@@ -3,11 +3,9 @@ use mathlib.Core.Path.{_≡_, sym, ap, _∙_, subst}
 use mathlib.Core.Bool.{true, false}
 use Rattle.inputs.specs.Usable.{usableOf}
 use Rattle.causes.specs.Codes.{Lists, noCauses, listed}
-use Rattle.state.specs.declared.State.{State}
 use Rattle.judge.specs.declared.Findings.{Findings}
 use Rattle.judge.specs.Causes.{rowsOf}
 use Rattle.channel.specs.Cycle.{withState}
-use Rattle.channel.specs.declared.Advanced.{Advanced}
 use Rattle.channel.specs.Word.{advancedBy}
 use Rattle.channel.specs.Ensures.{AdvanceEnsures}
 use Rattle.channel.proofs.Judging.{usable-cycle, usable-lists, unusable-cycle, unusable-lists}

@@ -1,3 +1,4 @@
+-- `machine_data::datum` meets its contract. Assumes nothing.
 use mathlib.Core.Path.{_∙_, ap}
 use mir.Syntax.{w32}
 use mir.ValLaws.{toZ-ofZ}
@@ -9,21 +10,17 @@ use borrow.Author.Needs.{needs}
 use Rattle.machine_data.proofs.datum.Statement.{statement}
 use Rattle.machine_data.proofs.datum.Tie as tie
 
--- src/lib.rt:145:9
 returns : tie.Need-returns
 unfolding datumOf
 returns c = simp (le-ltb _ _ (c .if1 .taken))
 
--- src/lib.rt:147:9
 range-of-requires : tie.Need-range-of-requires
 range-of-requires c κs = search needs
 
--- src/lib.rt:148:5
 read-requires : tie.Need-read-requires
 read-requires c κs = let r = c .before .before .range-of in
     (search needs, (toZ-ofZ w32 (r .result .low) (search needs) ∙ ap (λ (x : Range). x .low) (r .ensures), toZ-ofZ w32 (r .result .high) (search needs) ∙ ap (λ (x : Range). x .high) (r .ensures)))
 
--- src/lib.rt:141:1
 returns-2 : tie.Need-returns-2
 returns-2 c = search needs
 

@@ -1,3 +1,4 @@
+-- `machine_data::in_range` meets its contract, by its tests against the ends. Assumes nothing.
 use mathlib.Core.Path.{_∙_, ap, refl}
 use mir.Syntax.{w32}
 use mir.ValLaws.{toZ-ofZ}
@@ -9,21 +10,17 @@ use borrow.Author.Needs.{needs}
 use Rattle.machine_data.proofs.in_range.Statement.{statement}
 use Rattle.machine_data.proofs.in_range.Tie as tie
 
--- src/lib.rt:107:9
 returns : tie.Need-returns
 unfolding inRange
 returns c = simp (le-ltb _ _ (c .if1 .taken))
 
--- src/lib.rt:109:9
 range-of-requires : tie.Need-range-of-requires
 range-of-requires c κs = search needs
 
--- src/lib.rt:111:9
 returns-2 : tie.Need-returns-2
 returns-2 c = let s = c .before .before .before .before .before in
     too-low (s .args .k) (search needs) (s .args .z) _ _ _ (toZ-ofZ w32 (s .args .z) (s .fits .z)) (toZ-ofZ w32 (c .before .before .before .range-of .result .low) (search needs) ∙ ap (λ (r : Range). r .low) (c .before .before .before .range-of .ensures)) refl (c .if2 .taken)
 
--- src/lib.rt:103:1
 returns-3 : tie.Need-returns-3
 returns-3 c = let s = c .before .before .before .before .before .before .before in
     not-low (s .args .k) (search needs) (s .args .z) _ _ _ (toZ-ofZ w32 (s .args .z) (s .fits .z)) (toZ-ofZ w32 (c .before .before .before .before .before .range-of .result .low) (search needs) ∙ ap (λ (r : Range). r .low) (c .before .before .before .before .before .range-of .ensures)) (toZ-ofZ w32 (c .before .before .before .before .before .range-of .result .high) (search needs) ∙ ap (λ (r : Range). r .high) (c .before .before .before .before .before .range-of .ensures)) (c .before .before .if2 .left)

@@ -1,37 +1,30 @@
+-- `machine_data::range_from_16` meets its contract, row by row. Assumes nothing.
 use lib.IntN.{pos, negsuc}
 use Rattle.machine_data.proofs.Ends.{range-along}
 use Rattle.machine_data.proofs.range_from_16.Statement.{statement}
 use Rattle.machine_data.proofs.range_from_16.Tie as tie
 
--- src/lib.rt:51:1
 returns : tie.Need-returns
 returns c = range-along (negsuc 99999999) (pos 100000000) 16 8 _ tt tt (c .before .pre .0) (c .if1 .taken)
 
--- src/lib.rt:51:1
 returns-2 : tie.Need-returns-2
 returns-2 c = range-along (pos 1) (pos 100) 35 16 _ tt tt (c .if2 .taken) (c .before .before .pre .1)
 
--- src/lib.rt:51:1
 returns-3 : tie.Need-returns-3
 returns-3 c = range-along (pos 0) (pos 100000) 24 1 _ tt tt (c .before .before .if1 .left) (c .if3 .taken)
 
--- src/lib.rt:51:1
 returns-4 : tie.Need-returns-4
 returns-4 c = range-along (pos 0) (pos 1000000) 25 1 _ tt tt (c .before .if3 .left) (c .if4 .taken)
 
--- src/lib.rt:51:1
 returns-5 : tie.Need-returns-5
 returns-5 c = range-along (pos 0) (pos 100000) 26 1 _ tt tt (c .before .if4 .left) (c .if5 .taken)
 
--- src/lib.rt:51:1
 returns-6 : tie.Need-returns-6
 returns-6 c = range-along (pos 0) (pos 1000) 27 6 _ tt tt (c .before .if5 .left) (c .if6 .taken)
 
--- src/lib.rt:51:1
 returns-7 : tie.Need-returns-7
 returns-7 c = range-along (pos 0) (pos 1000000) 33 1 _ tt tt (c .before .if6 .left) (c .if7 .taken)
 
--- src/lib.rt:51:1
 returns-8 : tie.Need-returns-8
 returns-8 c = range-along (pos 0) (pos 1000) 34 1 _ tt tt (c .if7 .left) (c .before .before .before .before .before .if2 .left)
 

@@ -9,13 +9,12 @@ use machine_data::numbers;
 fn cam(values: &Values, reading: Reading, n: usize, before: bool) -> bool
     ensures { λ r. ⌜ r ≡ camOf (now (values .entry)) (reading .position) n before ⌝ }
 {
-    let edge = machine_data::cam_edge(values, n) as i64;
-    let tolerance = machine_data::datum(values, numbers::CAM_TOLERANCE) as i64;
-    let position = reading.position as i64;
-    if edge + tolerance < position {
+    let edge = machine_data::cam_edge(values, n);
+    let tolerance = machine_data::datum(values, numbers::CAM_TOLERANCE);
+    if edge + tolerance < reading.position {
         return true;
     }
-    if position < edge {
+    if reading.position < edge {
         return false;
     }
     before

@@ -1,7 +1,7 @@
 // The stop state of a channel.
 ghost use mathlib.Core.Path.{_≡_};
 ghost use Prim.Native.Nat.{_-_};
-ghost use Rattle.stop.specs.Stop.{rankOf, enteredOf, countedOf, heldAt, brakedAt, atCount, settledOf, stopNext};
+ghost use Rattle.stop.specs.Stop.{rankOf, countedOf, heldAt, brakedAt, atCount, settledOf, stopNext};
 use inputs::Reading;
 use machine_data::Values;
 use rank::Rank;
@@ -32,25 +32,6 @@ impl Stop {
             Stop::Braking(r, _) => r,
             Stop::Held(r, _) => r,
             Stop::Cancelled => Rank::A,
-        }
-    }
-
-    // A stop as a cause enters it.
-    fn entered(values: &Values, r: Rank) -> Stop
-        ensures { λ s. ⌜ s ≡ enteredOf (now (values .entry)) r ⌝ }
-    {
-        Stop::Braking(r, r.time(values))
-    }
-
-    // The count falls by one.
-    fn counted(self) -> Stop
-        ensures { λ s. ⌜ s ≡ countedOf self ⌝ }
-    {
-        match self {
-            Stop::Free => self,
-            Stop::Braking(r, n) => Stop::Braking(r, less_one(n)),
-            Stop::Held(_, _) => self,
-            Stop::Cancelled => self,
         }
     }
 
@@ -92,12 +73,13 @@ impl Stop {
         }
     }
 
-    fn settled(self, slow: bool, reading: Reading) -> Stop
-        ensures { λ s. ⌜ s ≡ settledOf slow (reading .position) self ⌝ }
+    // No cause is entered: the count falls by one.
+    fn fallen(self, slow: bool, reading: Reading) -> Stop
+        ensures { λ s. ⌜ s ≡ settledOf slow (reading .position) (countedOf self) ⌝ }
     {
         match self {
             Stop::Free => self,
-            Stop::Braking(r, n) => Stop::at_count(r, n, slow, reading),
+            Stop::Braking(r, n) => Stop::at_count(r, less_one(n), slow, reading),
             Stop::Held(_, _) => self,
             Stop::Cancelled => self,
         }
@@ -118,9 +100,9 @@ impl Stop {
             return Stop::Free;
         }
         if self.rank().number() < strongest.number() {
-            Stop::entered(values, strongest).settled(slow, reading)
+            Stop::at_count(strongest, strongest.time(values), slow, reading)
         } else {
-            self.counted().settled(slow, reading)
+            self.fallen(slow, reading)
         }
     }
 }

@@ -22,17 +22,14 @@ number-requires c κs = search needs
 number-requires-2 : tie.Need-number-requires-2
 number-requires-2 c κs = search needs
 
-entered-requires : tie.Need-entered-requires
-entered-requires c κs = search needs
+time-requires : tie.Need-time-requires
+time-requires c κs = search needs
 
-settled-requires : tie.Need-settled-requires
-settled-requires c κs = search needs
+at-count-requires : tie.Need-at-count-requires
+at-count-requires c κs = search needs
 
-counted-requires : tie.Need-counted-requires
-counted-requires c κs = search needs
-
-settled-requires-2 : tie.Need-settled-requires-2
-settled-requires-2 c κs = search needs
+fallen-requires : tie.Need-fallen-requires
+fallen-requires c κs = search needs
 
 -- the first of the two numbers compared
 standing : (c : tie.After-number2) → c .before .number .result ≡ levelOf (c .before .before .before .before .args .self)
@@ -44,15 +41,15 @@ returns-2 c =
     let k = c .before .before .before in
     let a = k .before .before .before .before .args in
     let t : outranks (a .strongest) (a .self) ≡ true = lt-ltb (levelOf (a .self)) (rankNumber (a .strongest)) (omega (arith, standing k)) in
-    c .settled .ensures ∙ simp (c .before .entered .ensures, k .before .before .before .if1 .left, t)
+    c .at-count .ensures ∙ simp (c .before .time .ensures, k .before .before .before .if1 .left, t)
 
 returns-3 : tie.Need-returns-3
 unfolding stopNext
 returns-3 c =
-    let k = c .before .before .before in
+    let k = c .before .before in
     let a = k .before .before .before .before .args in
     let t : outranks (a .strongest) (a .self) ≡ false = le-ltb (levelOf (a .self)) (rankNumber (a .strongest)) (omega (arith, standing k)) in
-    c .settled2 .ensures ∙ simp (c .before .counted .ensures, k .before .before .before .if1 .left, t)
+    c .fallen .ensures ∙ simp (k .before .before .before .if1 .left, t)
 
 pub next-spec : {M : Type 1} → statement M
 next-spec =
@@ -62,9 +59,8 @@ next-spec =
     rank-requires
     number-requires
     number-requires-2
-    entered-requires
-    settled-requires
-    counted-requires
-    settled-requires-2
+    time-requires
+    at-count-requires
+    fallen-requires
     returns-2
     returns-3)

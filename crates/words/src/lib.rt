@@ -43,11 +43,11 @@ pub fn signed32(bits: u32) -> i32
     signed(bits, 2147483648)
 }
 
-// The position that a word of kind 4 holds.
+// The position that a word of kind 4 holds, without a branch: half the width is added first and taken off last.
 pub fn position_of(w: u32) -> i32
     ensures { λ r. ⌜ r ≡ twos 134217728 (w % 268435456) ⌝ }
 {
-    signed(w % KIND, 134217728)
+    ((w % KIND + 134217728) % KIND) as i32 - 134217728
 }
 
 fn datum(value: u32) -> Word
@@ -80,7 +80,7 @@ pub fn word_of(w: u32) -> Word
                 Word::Other
             }
         }
-        4 => Word::Position(signed(value, 134217728)),
+        4 => Word::Position(position_of(w)),
         5 => {
             if value < PIECE {
                 Word::Lower(value as u16)

@@ -13,8 +13,8 @@ datum-requires c κs = search needs
 cast-t7 : tie.Need-cast-t7
 cast-t7 c = search needs
 
-signed-requires : tie.Need-signed-requires
-signed-requires c κs = search needs
+position-of-requires : tie.Need-position-of-requires
+position-of-requires c κs = search needs
 
 cast-t11 : tie.Need-cast-t11
 cast-t11 c = search needs
@@ -40,7 +40,7 @@ returns-4 c = simp (c .before .match .keys3, le-ltb _ _ (c .if1 .left))
 
 returns-5 : tie.Need-returns-5
 unfolding wordOf
-returns-5 c = ap Position (search needs ∙ c .signed .ensures) ∙ simp (c .before .match .keys4)
+returns-5 c = ap Position (search needs ∙ c .position-of .ensures) ∙ simp (c .before .match .keys4)
 
 returns-6 : tie.Need-returns-6
 unfolding wordOf
@@ -81,7 +81,7 @@ word-of-spec =
     (tie.spec
     datum-requires
     cast-t7
-    signed-requires
+    position-of-requires
     cast-t11
     cast-t14
     returns

@@ -1,0 +1,110 @@
+-- `image::state_from` meets its contract. Assumes nothing.
+use mir.Syntax.{w32}
+use mir.Val.{SFits}
+use mir.Facts.{toZ-ofZ}
+use Rattle.image.specs.Image.{stateFrom}
+use borrow.Author.Needs.{needs}
+use Rattle.image.proofs.state_from.Statement.{statement}
+use Rattle.image.proofs.state_from.Tie as tie
+
+element-copy-out-t4 : tie.Need-element-copy-out-t4
+element-copy-out-t4 c = search needs
+
+cast-t6 : tie.Need-cast-t6
+cast-t6 c = search needs
+
+element-copy-out-t9 : tie.Need-element-copy-out-t9
+element-copy-out-t9 c = search needs
+
+element-copy-out-yes : tie.Need-element-copy-out-yes
+element-copy-out-yes c = search needs
+
+yes-requires : tie.Need-yes-requires
+yes-requires c κs = search needs
+
+element-copy-out-selection-from : tie.Need-element-copy-out-selection-from
+element-copy-out-selection-from c = search needs
+
+element-copy-out-selection-from-2 : tie.Need-element-copy-out-selection-from-2
+element-copy-out-selection-from-2 c = search needs
+
+element-copy-out-selection-from-3 : tie.Need-element-copy-out-selection-from-3
+element-copy-out-selection-from-3 c = search needs
+
+selection-from-requires : tie.Need-selection-from-requires
+selection-from-requires c κs = search needs
+
+element-copy-out-signed : tie.Need-element-copy-out-signed
+element-copy-out-signed c = search needs
+
+signed-requires : tie.Need-signed-requires
+signed-requires c κs = search needs
+
+element-copy-out-t30 : tie.Need-element-copy-out-t30
+element-copy-out-t30 c = search needs
+
+element-copy-out-t34 : tie.Need-element-copy-out-t34
+element-copy-out-t34 c = search needs
+
+element-copy-out-yes-2 : tie.Need-element-copy-out-yes-2
+element-copy-out-yes-2 c = search needs
+
+yes-requires-2 : tie.Need-yes-requires-2
+yes-requires-2 c κs = search needs
+
+element-copy-out-t41 : tie.Need-element-copy-out-t41
+element-copy-out-t41 c = search needs
+
+element-copy-out-stop-from : tie.Need-element-copy-out-stop-from
+element-copy-out-stop-from c = search needs
+
+element-copy-out-stop-from-2 : tie.Need-element-copy-out-stop-from-2
+element-copy-out-stop-from-2 c = search needs
+
+element-copy-out-stop-from-3 : tie.Need-element-copy-out-stop-from-3
+element-copy-out-stop-from-3 c = search needs
+
+stop-from-requires : tie.Need-stop-from-requires
+stop-from-requires c κs = search needs
+
+element-copy-out-previous-from : tie.Need-element-copy-out-previous-from
+element-copy-out-previous-from c = search needs
+
+element-copy-out-previous-from-2 : tie.Need-element-copy-out-previous-from-2
+element-copy-out-previous-from-2 c = search needs
+
+previous-from-requires : tie.Need-previous-from-requires
+previous-from-requires c κs = search needs
+
+returns : tie.Need-returns
+unfolding stateFrom
+returns c = let f : SFits w32 (c .before .before .before .before .before .before .before .before .before .before .before .before .signed .result) = search needs in simp (toZ-ofZ f) (simp (c .previous-from .ensures, c .before .before .before .stop-from .ensures, c .before .before .before .before .before .before .before .before .yes2 .ensures, c .before .before .before .before .before .before .before .before .before .before .before .before .signed .ensures, c .before .before .before .before .before .before .before .before .before .before .before .before .before .before .selection-from .ensures, c .before .before .before .before .before .before .before .before .before .before .before .before .before .before .before .before .before .before .yes .ensures))
+
+pub state-from-spec : {M : Type 1} → statement M
+state-from-spec =
+    tie.close
+    (tie.spec
+    element-copy-out-t4
+    cast-t6
+    element-copy-out-t9
+    element-copy-out-yes
+    yes-requires
+    element-copy-out-selection-from
+    element-copy-out-selection-from-2
+    element-copy-out-selection-from-3
+    selection-from-requires
+    element-copy-out-signed
+    signed-requires
+    element-copy-out-t30
+    element-copy-out-t34
+    element-copy-out-yes-2
+    yes-requires-2
+    element-copy-out-t41
+    element-copy-out-stop-from
+    element-copy-out-stop-from-2
+    element-copy-out-stop-from-3
+    stop-from-requires
+    element-copy-out-previous-from
+    element-copy-out-previous-from-2
+    previous-from-requires
+    returns)

@@ -1,0 +1,88 @@
+-- A channel's image: the words that its state and the count of its list are kept in, beside its data.
+use Prim.Native.Nat.{ℕ, _%_, _<_}
+use mathlib.Core.List.{List, [], _∷_}
+use lib.ListN.{getD}
+use lib.IntN.{ℤ}
+use Rattle.machine_data.specs.declared.MachineData.{MachineData}
+use Rattle.machine_data.specs.Data.{lent}
+use Rattle.state.specs.declared.State.{State}
+use Rattle.channel.specs.declared.Channel.{Channel}
+use Rattle.image.specs.Words.{signedOf, unsignedOf, Signed, yesFrom, yesWord, previousFrom, previousWords, PreviousFits, selectionFrom, selectionWords, SelectionFits, stopFrom, stopWords, StopFits}
+
+-- how many data the list has: word 0; 0 where there is no list
+abbrev pub countFrom : List ℕ → ℕ
+countFrom w = getD w 0 0
+
+-- the state that words stand for, whatever they are
+unfoldable pub stateFrom : List ℕ → State
+stateFrom w =
+    record {
+      -- word 1, a byte
+      k = getD w 1 0 % 256;
+      kept =
+          record {
+            -- word 16, the cam signals as bits
+            cams = getD w 16 0;
+            choice =
+                record {
+                  -- word 4, whether a selection was made yet
+                  chosen = yesFrom (getD w 4 0);
+                  -- words 5 to 7
+                  effective = selectionFrom (getD w 5 0) (getD w 6 0) (getD w 7 0);
+                  -- word 8, SBH's reference
+                  reference = signedOf (getD w 8 0);
+                  -- word 9, the cycles left of a lowering
+                  left = getD w 9 0;
+                };
+            -- word 10, the usable cycles running in which the input words differ
+            differing = getD w 10 0;
+            -- word 11, F, and word 12, the cycles left to cause 13
+            fault = record { on = yesFrom (getD w 11 0); left = getD w 12 0 };
+          };
+      -- words 13 to 15
+      stop = stopFrom (getD w 13 0) (getD w 14 0) (getD w 15 0);
+      -- words 2 and 3
+      previous = previousFrom (getD w 2 0) (getD w 3 0);
+    }
+
+-- the words of a count and a state, in the order of their places
+unfoldable pub stateWords : ℕ → State → List ℕ
+stateWords count s =
+    let previous = previousWords (s .previous) in
+    let choice = s .kept .choice in
+    let effective = selectionWords (choice .effective) in
+    let stop = stopWords (s .stop) in
+    count % 4_294_967_296
+    ∷ s .k
+    ∷ previous .kind
+    ∷ previous .first
+    ∷ yesWord (choice .chosen)
+    ∷ effective .kind
+    ∷ effective .first
+    ∷ effective .second
+    ∷ unsignedOf (choice .reference)
+    ∷ choice .left
+    ∷ s .kept .differing
+    ∷ yesWord (s .kept .fault .on)
+    ∷ s .kept .fault .left
+    ∷ stop .kind
+    ∷ stop .first
+    ∷ stop .second
+    ∷ s .kept .cams
+    ∷ []
+
+-- the list that data and words stand for
+abbrev pub listFrom : List ℤ → List ℕ → MachineData
+listFrom values w = lent values (countFrom w)
+
+-- the channel that they stand for
+abbrev pub channelFrom : List ℤ → List ℕ → Channel
+channelFrom values w = record { list = listFrom values w; state = stateFrom w }
+
+-- the numbers of a state fit their types: those that are not kept as they stand, but as a byte or in two's complement
+pub record Fits (s : State) : Type 0 where
+  pub k : s .k < 256
+  pub effective : SelectionFits (s .kept .choice .effective)
+  pub reference : Signed (s .kept .choice .reference)
+  pub stop : StopFits (s .stop)
+  pub previous : PreviousFits (s .previous)

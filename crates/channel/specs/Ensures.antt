@@ -7,6 +7,7 @@ use Rattle.state.specs.declared.Given.{Given}
 use Rattle.judge.specs.Causes.{rowsOf}
 use Rattle.channel.specs.declared.Advanced.{Advanced}
 use Rattle.channel.specs.declared.Channel.{Channel}
+use Rattle.channel.specs.declared.Cycled.{Cycled}
 use Rattle.channel.specs.declared.Outcome.{Outcome}
 use Rattle.channel.specs.Cycle.{withState, next}
 use Rattle.channel.specs.Word.{word}
@@ -15,6 +16,12 @@ use Rattle.channel.specs.Word.{word}
 pub record AdvanceEnsures (m : MachineData) (s : State) (g : Given) (r : Advanced) : Type 0 where
   pub state : r .state ≡ next m s g
   pub word-is : r .word ≡ word m s g
+
+-- of a state beside its list
+pub record CycledEnsures (m : MachineData) (s : State) (g : Given) (r : Cycled) : Type 0 where
+  pub state : r .state ≡ next m s g
+  pub word-is : r .word ≡ word m s g
+  pub causes : Lists (rowsOf m s g) (r .causes)
 
 -- of a channel
 pub record CycleEnsures (c : Channel) (g : Given) (r : Outcome) : Type 0 where

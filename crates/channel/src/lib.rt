@@ -3,7 +3,7 @@ ghost use mathlib.Core.Path.{_≡_};
 ghost use Rattle.machine_data.specs.Data.{lent};
 ghost use Rattle.channel.specs.Cycle.{freshChannel, withState, clearsBy, nextBy, unusableNext};
 ghost use Rattle.channel.specs.Word.{shownWord, advancedBy, advancedUnusable};
-ghost use Rattle.channel.specs.Ensures.{AdvanceEnsures, CycleEnsures};
+ghost use Rattle.channel.specs.Ensures.{AdvanceEnsures, CycledEnsures, CycleEnsures};
 use causes::Causes;
 use causes::Summary;
 use distance::Previous;
@@ -26,6 +26,13 @@ pub struct Channel {
 pub struct Advanced {
     pub state: State,
     pub word: u32,
+}
+
+// What a cycle gives beside its data: the state after it, its word and its causes.
+pub struct Cycled {
+    pub state: State,
+    pub word: u32,
+    pub causes: Causes,
 }
 
 // What a cycle gives: the channel after it, its word and its causes.
@@ -151,29 +158,43 @@ pub fn with_state(channel: Channel, state: State) -> Channel
     Channel { list, state }
 }
 
+// A cycle of a state beside its data: what a machine's cycle needs, with no copy of the data.
+pub fn cycle_on(values: &Values, count: usize, state: State, given: Given) -> Cycled
+    ensures { λ r. ⌜ CycledEnsures (lent (now (values .entry)) count) state given r ⌝ }
+{
+    if inputs::usable(values, count, given.reading) {
+        let findings = judge::judge(values, count, state, given);
+        let rows = findings.rows;
+        let advanced = found(values, count, state, given, findings);
+        let after = advanced.state;
+        Cycled {
+            state: after,
+            word: advanced.word,
+            causes: Causes::of(rows),
+        }
+    } else {
+        let idle = skipped(values, count, state);
+        let after = idle.state;
+        Cycled {
+            state: after,
+            word: idle.word,
+            causes: Causes::unusable(),
+        }
+    }
+}
+
 // A cycle of a channel.
 pub fn cycle(channel: Channel, given: Given) -> Outcome
     ensures { λ r. ⌜ CycleEnsures channel given r ⌝ }
 {
     let list = channel.list;
     let state = channel.state;
-    if inputs::usable(&list.values, list.count, given.reading) {
-        let findings = judge::judge(&list.values, list.count, state, given);
-        let rows = findings.rows;
-        let advanced = found(&list.values, list.count, state, given, findings);
-        let after = advanced.state;
-        Outcome {
-            channel: with_state(channel, after),
-            word: advanced.word,
-            causes: Causes::of(rows),
-        }
-    } else {
-        let advanced = skipped(&list.values, list.count, state);
-        let after = advanced.state;
-        Outcome {
-            channel: with_state(channel, after),
-            word: advanced.word,
-            causes: Causes::unusable(),
-        }
+    let cycled = cycle_on(&list.values, list.count, state, given);
+    let after = cycled.state;
+    let causes = cycled.causes;
+    Outcome {
+        channel: with_state(channel, after),
+        word: cycled.word,
+        causes,
     }
 }

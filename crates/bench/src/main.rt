@@ -33,7 +33,7 @@ fn read_all(room: &mut [u8]) -> Input
 fn list(kit: &[u8]) {
     // The longest text there is.
     let mut text = [0u8; 74880];
-    let bytes = listing::monitor_list_kit(kit, &mut text);
+    let bytes = listing::list_kit(kit, &mut text);
     if !io::write_all(STDOUT_FILENO, &text[..bytes]) {
         os::fail(b"bench: standard output");
     }

@@ -5,7 +5,7 @@ fn list_kit(fd: i32) {
     let mut kit = [0u8; 65540];
     let many = io::read_full(fd, &mut kit);
     let mut text = [0u8; 74880];
-    let bytes = listing::monitor_list_kit(&kit[..many], &mut text);
+    let bytes = listing::list_kit(&kit[..many], &mut text);
     io::write_all(STDOUT_FILENO, &text[..bytes]);
 }
 

@@ -89,8 +89,7 @@ fn list_long(kit: &[u8], out: &mut [u8]) -> usize
 
 // The length of the kit's text; where the buffer has room the text stands at its front. No text is longer than 2,340
 // lines of 32 bytes.
-#[no_mangle]
-pub extern "C" fn monitor_list_kit(kit: &[u8], out: &mut [u8]) -> usize
+pub fn list_kit(kit: &[u8], out: &mut [u8]) -> usize
     ensures { λ r. ⌜ r ≡ length (listed (now (kit .entry))) ⌝ }
     ensures { λ _. ⌜ now (out .exit) ≡ written 0 (listed (now (kit .entry))) (now (out .entry)) ⌝ }
     ensures { λ r. ⌜ r ≤ 74880 ⌝ }
@@ -113,8 +112,7 @@ fn tell(told: &mut [u64; 3], number: u32, place: usize, letter: u8)
 
 // A kit's words run: the number of cycles, whose words stand at the output's front, and in `told` 0. Where the kit is
 // refused no cycle, and in `told` the refusal's number, its place, and the letter of the part.
-#[no_mangle]
-pub extern "C" fn monitor_run_kit(words: &[u32], out: &mut [u32], told: &mut [u64; 3]) -> usize
+pub fn run_kit(words: &[u32], out: &mut [u32], told: &mut [u64; 3]) -> usize
     ensures { λ r. ⌜ r ≡ cyclesOf (kitRan (now (words .entry)) (now (out .entry)) .answer) ⌝ }
     ensures { λ _. ⌜ now (out .exit) ≡ kitRan (now (words .entry)) (now (out .entry)) .out ⌝ }
     ensures { λ _. ⌜ now (told .exit) ≡ toldOf (kitRan (now (words .entry)) (now (out .entry)) .answer) ⌝ }

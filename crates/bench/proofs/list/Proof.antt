@@ -8,17 +8,17 @@ use borrow.Author.Needs.{needs}
 use Rattle.bench.proofs.list.Statement.{statement}
 use Rattle.bench.proofs.list.Tie as tie
 
-slice-aggregate-monitor-list-kit : tie.Need-slice-aggregate-monitor-list-kit
-slice-aggregate-monitor-list-kit c = search needs
+slice-aggregate-list-kit : tie.Need-slice-aggregate-list-kit
+slice-aggregate-list-kit c = search needs
 
-monitor-list-kit-requires : tie.Need-monitor-list-kit-requires
-monitor-list-kit-requires c κs = search needs
+list-kit-requires : tie.Need-list-kit-requires
+list-kit-requires c κs = search needs
 
 array-share-prefix-text : tie.Need-array-share-prefix-text
 array-share-prefix-text c = search needs
 
 slice-aggregate-write-all : tie.Need-slice-aggregate-write-all
-slice-aggregate-write-all c = let l = c .before .before .monitor-list-kit in sym (length-take-le (l .result) (l .last .1 .0) (omega (arith, l .ensures .1 .1, l .kept .1 .0 ∙ length-replicate {A = ℕ} 74880 0)))
+slice-aggregate-write-all c = let l = c .before .before .list-kit in sym (length-take-le (l .result) (l .last .1 .0) (omega (arith, l .ensures .1 .1, l .kept .1 .0 ∙ length-replicate {A = ℕ} 74880 0)))
 
 write-all-requires : tie.Need-write-all-requires
 write-all-requires c κs = search needs
@@ -39,8 +39,8 @@ pub list-spec : {M : Type 1} → statement M
 list-spec =
     tie.close
     (tie.spec
-    slice-aggregate-monitor-list-kit
-    monitor-list-kit-requires
+    slice-aggregate-list-kit
+    list-kit-requires
     array-share-prefix-text
     slice-aggregate-write-all
     write-all-requires

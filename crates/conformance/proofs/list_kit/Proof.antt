@@ -17,20 +17,20 @@ read-full-requires c κs = search needs
 array-share-prefix-kit : tie.Need-array-share-prefix-kit
 array-share-prefix-kit c = search needs
 
-slice-aggregate-monitor-list-kit : tie.Need-slice-aggregate-monitor-list-kit
-slice-aggregate-monitor-list-kit c = search needs
+slice-aggregate-list-kit : tie.Need-slice-aggregate-list-kit
+slice-aggregate-list-kit c = search needs
 
-slice-aggregate-monitor-list-kit-2 : tie.Need-slice-aggregate-monitor-list-kit-2
-slice-aggregate-monitor-list-kit-2 c = search needs
+slice-aggregate-list-kit-2 : tie.Need-slice-aggregate-list-kit-2
+slice-aggregate-list-kit-2 c = search needs
 
-monitor-list-kit-requires : tie.Need-monitor-list-kit-requires
-monitor-list-kit-requires c κs = search needs
+list-kit-requires : tie.Need-list-kit-requires
+list-kit-requires c κs = search needs
 
 array-share-prefix-text : tie.Need-array-share-prefix-text
 array-share-prefix-text c = search needs
 
 slice-aggregate-write-all : tie.Need-slice-aggregate-write-all
-slice-aggregate-write-all c = let l = c .before .before .monitor-list-kit in sym (length-take-le (l .result) (l .last .1 .0) (omega (arith, l .ensures .1 .1, l .kept .1 .0 ∙ length-replicate {A = ℕ} 74880 0)))
+slice-aggregate-write-all c = let l = c .before .before .list-kit in sym (length-take-le (l .result) (l .last .1 .0) (omega (arith, l .ensures .1 .1, l .kept .1 .0 ∙ length-replicate {A = ℕ} 74880 0)))
 
 write-all-requires : tie.Need-write-all-requires
 write-all-requires c κs = search needs
@@ -45,9 +45,9 @@ list-kit-spec =
     slice-aggregate-read-full
     read-full-requires
     array-share-prefix-kit
-    slice-aggregate-monitor-list-kit
-    slice-aggregate-monitor-list-kit-2
-    monitor-list-kit-requires
+    slice-aggregate-list-kit
+    slice-aggregate-list-kit-2
+    list-kit-requires
     array-share-prefix-text
     slice-aggregate-write-all
     write-all-requires

@@ -1,10 +1,10 @@
--- `listing::monitor_run_kit` meets its contract. Assumes nothing.
+-- `listing::run_kit` meets its contract. Assumes nothing.
 use mathlib.Core.Path.{sym, ap, _∙_}
 use mathlib.Core.List.{_∷_, []}
 use Rattle.listing.specs.Listing.{cyclesOf, toldOf}
 use borrow.Author.Needs.{needs}
-use Rattle.listing.proofs.monitor_run_kit.Statement.{statement}
-use Rattle.listing.proofs.monitor_run_kit.Tie as tie
+use Rattle.listing.proofs.run_kit.Statement.{statement}
+use Rattle.listing.proofs.run_kit.Tie as tie
 
 run-kit-requires : tie.Need-run-kit-requires
 run-kit-requires c κs = search needs
@@ -42,8 +42,8 @@ same-length-2 c = search needs
 returns-2 : tie.Need-returns-2
 returns-2 c = let is = sym (c .before .before .before .before .before .before .why .given .1) ∙ c .before .before .before .before .before .before .before .before .before .before .run-kit .ensures .0 in (ap cyclesOf is, (c .before .before .before .before .before .before .before .before .before .before .run-kit .ensures .1, c .tell2 .ensures ∙ (λ i. c .before .before .before .number .ensures i ∷ c .before .before .place .ensures i ∷ c .before .letter .ensures i ∷ []) ∙ ap toldOf is))
 
-pub monitor-run-kit-spec : {M : Type 1} → statement M
-monitor-run-kit-spec =
+pub run-kit-spec : {M : Type 1} → statement M
+run-kit-spec =
     tie.close
     (tie.spec
     run-kit-requires

@@ -1,11 +1,11 @@
--- `listing::monitor_list_kit` meets its contract. Assumes nothing.
+-- `listing::list_kit` meets its contract. Assumes nothing.
 use borrow.Author.Tests.{not-true, not-false}
 use denote.Ref.{now}
 use Rattle.run_text.proofs.Texts.{same-text}
 use Rattle.listing.proofs.Texts.{whole-size, listed-whole, listed-odd}
 use borrow.Author.Needs.{needs}
-use Rattle.listing.proofs.monitor_list_kit.Statement.{statement}
-use Rattle.listing.proofs.monitor_list_kit.Tie as tie
+use Rattle.listing.proofs.list_kit.Statement.{statement}
+use Rattle.listing.proofs.list_kit.Tie as tie
 
 whole-words-requires : tie.Need-whole-words-requires
 whole-words-requires c κs = search needs
@@ -37,8 +37,8 @@ same-length-3 c = search needs
 returns-3 : tie.Need-returns-3
 returns-3 c = let a = c .before .before .before .before .before .before .before .before .before .args in same-text (now (a .out)) (listed-whole (now (a .kit)) (c .before .before .before .before .before .before .whole-words .ensures) (not-false _ (c .before .before .before .before .before .if1 .left))) (c .before .before .list-long .ensures)
 
-pub monitor-list-kit-spec : {M : Type 1} → statement M
-monitor-list-kit-spec =
+pub list-kit-spec : {M : Type 1} → statement M
+list-kit-spec =
     tie.close
     (tie.spec
     whole-words-requires

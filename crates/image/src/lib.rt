@@ -1,6 +1,7 @@
 // A channel's state as 17 words of 32 bits, and back: what a program keeps of a channel that crosses into its memory. Every
 // content of the words stands for some state.
 ghost use mathlib.Core.Path.{_≡_};
+ghost use Prim.Native.Nat.{_<_};
 ghost use Rattle.image.specs.Words.{signedOf, unsignedOf, yesFrom, yesWord, previousFrom, previousWords, PreviousFits, selectionFrom, selectionWords, SelectionFits, stopFrom, stopWords, StopFits};
 ghost use Rattle.image.specs.Image.{countFrom, stateFrom};
 ghost use Rattle.image.specs.Ensures.{WordsEnsures};
@@ -158,6 +159,7 @@ fn stop_words(stop: Stop) -> Case
 
 fn wide(word: u32) -> usize
     ensures { λ r. ⌜ r ≡ word ⌝ }
+    ensures { λ r. ⌜ r < 4294967296 ⌝ }
 {
     word as usize
 }
@@ -165,6 +167,7 @@ fn wide(word: u32) -> usize
 // How many data the list has.
 pub fn count_of(words: &Image) -> usize
     ensures { λ r. ⌜ r ≡ countFrom (now (words .entry)) ⌝ }
+    ensures { λ r. ⌜ r < 4294967296 ⌝ }
 {
     wide(words[0])
 }

@@ -1,0 +1,3 @@
+pub mod Channels
+pub mod Lists
+pub mod Logs

@@ -1,0 +1,38 @@
+-- `axis_monitor::monitor_report` meets its contract. Assumes nothing.
+use Rattle.axis_monitor.specs.Crossing.{reportWords}
+use mathlib.Core.Path.{_≡_, ap, _∙_}
+use mir.Syntax.{w32}
+use mir.Val.{SFits}
+use mir.Facts.{toZ-ofZ}
+use denote.Ref.{now}
+use Rattle.axis_monitor.specs.Ensures.{reportedBy}
+use borrow.Author.Needs.{needs}
+use Rattle.axis_monitor.proofs.monitor_report.Statement.{statement}
+use Rattle.axis_monitor.proofs.monitor_report.Tie as tie
+
+count-of-requires : tie.Need-count-of-requires
+count-of-requires c κs = search needs
+
+state-from-requires : tie.Need-state-from-requires
+state-from-requires c κs = search needs
+
+report-of-requires : tie.Need-report-of-requires
+report-of-requires c κs = search needs
+
+report-words-requires : tie.Need-report-words-requires
+report-words-requires c κs = search needs
+
+returns : tie.Need-returns
+returns c = let a = c .before .before .before .before .args in let f : SFits w32 (a .position) = c .before .before .before .before .fits .position in
+    let e : c .before .report-of .result ≡ reportedBy (now (a .values)) (now (a .state)) (a .position) (a .inputs) = simp (c .before .report-of .ensures) (simp (toZ-ofZ f, c .before .before .state-from .ensures)) in
+    record { words = c .report-words .ensures .0 ∙ ap reportWords e; back = c .report-words .ensures .1 ∙ e }
+
+pub monitor-report-spec : {M : Type 1} → statement M
+monitor-report-spec =
+    tie.close
+    (tie.spec
+    count-of-requires
+    state-from-requires
+    report-of-requires
+    report-words-requires
+    returns)

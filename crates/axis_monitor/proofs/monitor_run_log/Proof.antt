@@ -1,0 +1,71 @@
+-- `axis_monitor::monitor_run_log` meets its contract. Assumes nothing.
+use denote.Ref.{now}
+use Rattle.axis_monitor.proofs.Logs.{ran, refused}
+use borrow.Author.Needs.{needs}
+use Rattle.axis_monitor.proofs.monitor_run_log.Statement.{statement}
+use Rattle.axis_monitor.proofs.monitor_run_log.Tie as tie
+
+channel-from-requires : tie.Need-channel-from-requires
+channel-from-requires c κs = search needs
+
+channel-from-requires-2 : tie.Need-channel-from-requires-2
+channel-from-requires-2 c κs = search needs
+
+run-log-requires : tie.Need-run-log-requires
+run-log-requires c κs = search needs
+
+enum-known-answer : tie.Need-enum-known-answer
+enum-known-answer c = search needs
+
+count-of-requires : tie.Need-count-of-requires
+count-of-requires c κs = search needs
+
+words-of-requires : tie.Need-words-of-requires
+words-of-requires c κs = search needs
+
+count-of-requires-2 : tie.Need-count-of-requires-2
+count-of-requires-2 c κs = search needs
+
+words-of-requires-2 : tie.Need-words-of-requires-2
+words-of-requires-2 c κs = search needs
+
+enum-known-answer-2 : tie.Need-enum-known-answer-2
+enum-known-answer-2 c = search needs
+
+place-requires : tie.Need-place-requires
+place-requires c κs = search needs
+
+number-requires : tie.Need-number-requires
+number-requires c κs = search needs
+
+same-length : tie.Need-same-length
+same-length c = search needs
+
+returns : tie.Need-returns
+returns c = let a = c .before .before .before .before .before .before .before .before .before .before .before .before .before .before .before .before .before .before .before .before .before .before .before .args in ran (now (a .values-a)) (now (a .state-a)) (now (a .values-b)) (now (a .state-b)) (now (a .words)) (now (a .out)) (c .before .before .before .before .before .before .before .before .before .before .before .before .before .before .before .before .before .before .before .channel-from .ensures) (c .before .before .before .before .before .before .before .before .before .before .before .before .before .before .before .before .before .channel-from2 .ensures) (c .before .before .before .before .before .before .before .before .before .before .before .before .before .before .before .run-log .ensures) (c .before .before .before .before .before .before .before .before .before .before .before .answer .given .1) (c .before .before .before .before .before .before .count-of .ensures .0) (c .before .before .before .before .before .before .count-of .ensures .1) (c .before .count-of2 .ensures .0) (c .before .count-of2 .ensures .1) (c .before .before .before .before .before .words-of .ensures) (c .words-of2 .ensures)
+
+same-length-2 : tie.Need-same-length-2
+same-length-2 c = search needs
+
+returns-2 : tie.Need-returns-2
+returns-2 c = let a = c .before .before .before .before .before .before .before .before .before .before .before .before .before .before .before .args in refused (now (a .values-a)) (now (a .state-a)) (now (a .values-b)) (now (a .state-b)) (now (a .words)) (now (a .out)) (c .before .before .before .before .before .before .before .before .before .before .before .channel-from .ensures) (c .before .before .before .before .before .before .before .before .before .channel-from2 .ensures) (c .before .before .before .before .before .before .before .run-log .ensures) (c .before .before .before .answer2 .given .1) (c .number .ensures) (c .before .place .ensures)
+
+pub monitor-run-log-spec : {M : Type 1} → statement M
+monitor-run-log-spec =
+    tie.close
+    (tie.spec
+    channel-from-requires
+    channel-from-requires-2
+    run-log-requires
+    enum-known-answer
+    count-of-requires
+    words-of-requires
+    count-of-requires-2
+    words-of-requires-2
+    enum-known-answer-2
+    place-requires
+    number-requires
+    same-length
+    returns
+    same-length-2
+    returns-2)

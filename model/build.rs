@@ -1,4 +1,4 @@
-//! With the feature `proved`, links the archive `liblisting.a` of the proved monitor.
+//! With the feature `proved`, links the archive `libaxis_monitor.a` of the proved monitor.
 
 use std::env;
 use std::path::Path;
@@ -16,8 +16,8 @@ fn main() {
     // A folder that is not absolute counts from this one, whatever cargo is run from.
     let package = env::var("CARGO_MANIFEST_DIR").unwrap_or_default();
     let folder = Path::new(&package).join(folder);
-    let archive = folder.join("liblisting.a");
+    let archive = folder.join("libaxis_monitor.a");
     println!("cargo:rerun-if-changed={}", archive.display());
     println!("cargo:rustc-link-search=native={}", folder.display());
-    println!("cargo:rustc-link-lib=static=listing");
+    println!("cargo:rustc-link-lib=static=axis_monitor");
 }

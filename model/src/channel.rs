@@ -6,6 +6,8 @@ use crate::machine_data::{number, Function, MachineData, COUNT};
 use crate::selection::{Selection, Selections};
 use crate::stop::{Rank, Stop};
 
+pub mod image;
+
 /// The input bits that have a meaning: "Every other bit must be 0."
 pub const INPUT_BITS: u32 = 0xf03c_101b;
 
@@ -159,7 +161,7 @@ impl Channel {
             UnusableAcknowledged => if acknowledged { self.stop.clear(r) },
             UnusableFOff => self.f = F::OFF,
             UnusableRunEnds => self.run = Run(0),
-            UnusableRunCounts => if inputs != report.inputs { self.run.0 = self.run.0.saturating_add(1) },
+            UnusableRunCounts => if inputs != report.inputs { self.run.0 += 1 },
             UnusableCamsOff => self.cams = [false; 8],
             UnusableCamsWorkedOut => self.move_cams(r, position));
         let word = self.word(r, Selection::of(r, &self.data, inputs), inputs, None);
@@ -332,7 +334,7 @@ impl Channel {
         let shown = paper!(r, effective,
             SgBitsSelected => selected);
         let sg = match shown {
-            Selection::Sg { sg, .. } => paper!(r, u32::from(sg),
+            Selection::Sg { sg, .. } => paper!(r, u32::from(sg & 3),
                 SgBitsNotLessOne => (u32::from(sg) + 1) & 3),
             Selection::Sbh => paper!(r, 0,
                 SgBitsUnderSbh => inputs >> 3 & 3),
@@ -441,7 +443,7 @@ impl Channel {
     }
 
     /// The run of differing input words.
-    pub fn run(&self) -> i32 {
+    pub fn run(&self) -> i64 {
         self.run.0
     }
 

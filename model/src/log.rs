@@ -91,15 +91,9 @@ pub fn run_as<R: Reading>(
     log: &[u32],
     out: &mut [u32],
 ) -> Result<usize, Refusal> {
-    let cycles = check_as(r, log)?;
-    let wanted = 3 * cycles;
-    let too_small = paper!(r, out.len() < wanted,
-        OutputAlwaysTooSmall => wanted > 0);
-    if too_small {
-        return refuse(7, wanted);
-    }
+    let cycles = room_as(r, log, out)?;
     let mut place = 0;
-    for three in out[..wanted].chunks_exact_mut(3) {
+    for three in out[..3 * cycles].chunks_exact_mut(3) {
         let Next::Record(record, behind) = next(r, log, place) else {
             break;
         };
@@ -107,6 +101,24 @@ pub fn run_as<R: Reading>(
         place = behind;
     }
     Ok(cycles)
+}
+
+/// "output below 3 words a cycle | 7": the number of cycles of a log that may run.
+pub fn room(log: &[u32], out: &[u32]) -> Result<usize, Refusal> {
+    room_as(Paper, log, out)
+}
+
+/// [`room`] by any reading.
+#[inline]
+fn room_as<R: Reading>(r: R, log: &[u32], out: &[u32]) -> Result<usize, Refusal> {
+    let cycles = check_as(r, log)?;
+    let wanted = 3 * cycles;
+    let too_small = paper!(r, out.len() < wanted,
+        OutputAlwaysTooSmall => wanted > 0);
+    match too_small {
+        true => refuse(7, wanted),
+        false => Ok(cycles),
+    }
 }
 
 /// The records of a log, as far as it is right.

@@ -1,11 +1,53 @@
 //! The proved monitor, linked as a static library: its functions for other programs.
 
+use crate::channel::image::{Image, WORDS};
+use crate::channel::Report;
+use crate::list::Refusal;
 use crate::listing::{self, Part};
+use crate::machine_data::COUNT;
 
-/// The monitor's own two functions. Each is proved for any memory that is lent to it whole,
-/// which a slice is.
-mod archive {
+/// The monitor's own functions, as `include/axis_monitor.h` declares them. Each is proved for any
+/// memory that is lent to it whole, which a slice or an array is, and written memory to it alone.
+pub mod archive {
+    use super::{Image, COUNT};
+
     extern "C" {
+        pub fn monitor_interface() -> u32;
+        pub fn monitor_read_list(
+            words: *const u32,
+            words_len: usize,
+            data: *mut [i32; COUNT],
+            state: *mut Image,
+            at: *mut usize,
+        ) -> u32;
+        pub fn monitor_report(
+            data: *const [i32; COUNT],
+            state: *const Image,
+            position: i32,
+            inputs: u32,
+            report: *mut [u32; 3],
+        );
+        pub fn monitor_cycle(
+            data: *const [i32; COUNT],
+            state: *mut Image,
+            position: i32,
+            inputs: u32,
+            acknowledged: u32,
+            report: *const [u32; 3],
+            causes: *mut [u8; 13],
+        ) -> u32;
+        pub fn monitor_device_word(a: u32, b: u32) -> u32;
+        pub fn monitor_run_log(
+            data_a: *const [i32; COUNT],
+            state_a: *mut Image,
+            data_b: *const [i32; COUNT],
+            state_b: *mut Image,
+            words: *const u32,
+            words_len: usize,
+            out: *mut u32,
+            out_len: usize,
+            at: *mut usize,
+        ) -> u32;
         pub fn monitor_list_kit(
             kit: *const u8,
             kit_len: usize,
@@ -20,6 +62,139 @@ mod archive {
             told: *mut [u64; 3],
         ) -> usize;
     }
+}
+
+/// The number of the interface.
+pub fn interface() -> u32 {
+    // SAFETY: nothing is lent.
+    unsafe { archive::monitor_interface() }
+}
+
+/// The device word of two channel words.
+#[inline]
+pub fn device_word(a: u32, b: u32) -> u32 {
+    // SAFETY: nothing is lent.
+    unsafe { archive::monitor_device_word(a, b) }
+}
+
+/// A channel as its caller keeps it.
+#[derive(Clone, Copy, Debug, PartialEq, Eq)]
+pub struct Channel {
+    pub data: [i32; COUNT],
+    pub state: Image,
+}
+
+/// What a cycle gives: the channel word, and the codes that stand with 0 behind them.
+#[derive(Clone, Copy, Debug, PartialEq, Eq)]
+pub struct Cycle {
+    pub word: u32,
+    pub codes: [u8; 13],
+}
+
+impl Channel {
+    /// No list.
+    pub const NONE: Channel = Channel {
+        data: [0; COUNT],
+        state: [0; WORDS],
+    };
+
+    /// The channel of a list, and how many words it has. A refused one leaves it as it was.
+    #[inline]
+    pub fn read_list(&mut self, words: &[u32]) -> Result<usize, Refusal> {
+        let mut at = usize::MAX;
+        // SAFETY: all are lent for the call, and what is written to nobody else.
+        let number = unsafe {
+            archive::monitor_read_list(
+                words.as_ptr(),
+                words.len(),
+                &mut self.data,
+                &mut self.state,
+                &mut at,
+            )
+        };
+        answer(number, at)
+    }
+
+    /// Its report of a cycle.
+    #[inline]
+    pub fn report(&self, position: i32, inputs: u32) -> [u32; 3] {
+        let mut report = [u32::MAX; 3];
+        // SAFETY: all are lent for the call, and what is written to nobody else.
+        unsafe {
+            archive::monitor_report(&self.data, &self.state, position, inputs, &mut report);
+        }
+        report
+    }
+
+    /// A cycle; any number but 0 acknowledges.
+    #[inline]
+    pub fn cycle(
+        &mut self,
+        position: i32,
+        inputs: u32,
+        acknowledged: u32,
+        report: &[u32; 3],
+    ) -> Cycle {
+        let mut codes = [u8::MAX; 13];
+        // SAFETY: all are lent for the call, and what is written to nobody else.
+        let word = unsafe {
+            archive::monitor_cycle(
+                &self.data,
+                &mut self.state,
+                position,
+                inputs,
+                acknowledged,
+                report,
+                &mut codes,
+            )
+        };
+        Cycle { word, codes }
+    }
+}
+
+/// The number of cycles of a log, 3 words each at the front of the output. A refused one leaves
+/// the output and both channels as they were.
+#[inline]
+pub fn run_log(
+    a: &mut Channel,
+    b: &mut Channel,
+    words: &[u32],
+    output: &mut [u32],
+) -> Result<usize, Refusal> {
+    let mut at = usize::MAX;
+    // SAFETY: all are lent for the call, and what is written to nobody else.
+    let number = unsafe {
+        archive::monitor_run_log(
+            &a.data,
+            &mut a.state,
+            &b.data,
+            &mut b.state,
+            words.as_ptr(),
+            words.len(),
+            output.as_mut_ptr(),
+            output.len(),
+            &mut at,
+        )
+    };
+    answer(number, at)
+}
+
+/// A refusal's number and place, or with 0 what else is told.
+fn answer(number: u32, at: usize) -> Result<usize, Refusal> {
+    match number {
+        0 => Ok(at),
+        _ => Err(Refusal { number, place: at }),
+    }
+}
+
+/// A report as it is lent.
+pub fn lent(report: Report) -> [u32; 3] {
+    let Report {
+        position,
+        inputs,
+        datum,
+    } = report;
+    [position as u32, inputs, datum as u32]
 }
 
 /// The length of a kit's text. It stands at the front of the buffer if there is room, else

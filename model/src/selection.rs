@@ -55,7 +55,7 @@ impl Selection {
     /// "The override applies to SG2 and SG4 only; others have 100."
     #[inline]
     pub fn percent<R: Reading>(r: R, data: &MachineData, sg: u8, override_number: u8) -> i32 {
-        let applies = paper!(r, sg == 1 || sg == 3,
+        let applies = paper!(r, sg & 1 == 1,
             OverrideOnSg1 => sg != 2,
             OverrideOnSg3 => sg != 0,
             NoOverrideOnSg2 => sg == 3,
@@ -111,7 +111,7 @@ pub struct Selections {
     /// Whether there was a usable selection.
     pub any_yet: bool,
     /// "A stricter one sets a count to datum 27": 0 while no lower selection waits.
-    pub count: i32,
+    pub count: i64,
     /// "its reference is the position, kept while SBH is effective"
     pub reference: i32,
     /// Of deviations only: the selection that waits, and the position of its choice.
@@ -203,7 +203,7 @@ impl Selections {
         let starts = paper!(r, self.count == 0,
             DelaySetAnew => self.count == 0 || selected.stricter(r, data, self.waiting),
             PartWayUpEndsCount => self.count == 0 || self.waiting.stricter(r, data, selected));
-        let delay = data.get(number::DELAY);
+        let delay = i64::from(data.get(number::DELAY));
         let count = paper!(r, if starts { delay } else { self.count - 1 },
             DelayOneMore => if starts { delay + 1 } else { self.count - 1 },
             DelayOneLess => if starts { (delay - 1).max(0) } else { self.count - 1 },

@@ -53,7 +53,7 @@ pub struct Stop {
     /// "24-26 rank"
     pub rank: Rank,
     /// Cycles until C, D or E is held, or B becomes A.
-    pub count: i32,
+    pub count: i64,
     /// "C, D and E are held with the position as reference": the reference, while held.
     pub held: Option<i32>,
     /// Of deviations only: the position of the entry.
@@ -132,7 +132,7 @@ impl Stop {
 
     /// "its count from data 29-32 (0 for A)"
     #[inline]
-    fn time<R: Reading>(&self, r: R, data: &MachineData) -> i32 {
+    fn time<R: Reading>(&self, r: R, data: &MachineData) -> i64 {
         let number = paper!(r, self.rank.time(),
         TimesCAndDSwapped => match self.rank {
             Rank::C => Some(number::TIME_D),
@@ -148,7 +148,7 @@ impl Stop {
             Rank::B => Some(number::TIME_E),
             _ => self.rank.time(),
         });
-        let time = number.map_or(0, |number| data.get(number));
+        let time = number.map_or(0, |number| i64::from(data.get(number)));
         paper!(r, time,
             TimeOneMore => time + 1,
             TimeOneLess => (time - 1).max(0))
@@ -176,9 +176,9 @@ impl Stop {
         }
         match self.rank {
             Rank::C | Rank::D | Rank::E => self.hold(r, position),
-            Rank::B => paper!(r, self.rank = Rank::A,
+            Rank::B if self.held.is_none() => paper!(r, self.rank = Rank::A,
                 BNotToA => ()),
-            Rank::None | Rank::A => (),
+            Rank::None | Rank::B | Rank::A => (),
         }
     }
 
@@ -204,7 +204,7 @@ impl Stop {
             ShutdownSigned => d * 60 < data.times_t(speed),
             ShutdownWithoutT => d.abs() * 60 < i64::from(speed) * 12,
             ShutdownDivides => d.abs() < data.times_t(speed) / 60);
-        let falls_to_a = paper!(r, self.rank == Rank::B,
+        let falls_to_a = paper!(r, self.rank == Rank::B && self.held.is_none(),
             ShutdownAlsoC => self.rank == Rank::B || self.rank == Rank::C);
         if below && falls_to_a {
             self.rank = Rank::A;

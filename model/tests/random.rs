@@ -1,6 +1,6 @@
 //! Random kits: what they reach, and that the same seed gives the same kit.
 
-use model::random::{self, Reached};
+use model::random::{self, Reached, ReachedCalls};
 
 #[test]
 fn everything_is_reached_often() {
@@ -11,6 +11,17 @@ fn everything_is_reached_often() {
     println!("{reached}");
     let (count, name) = reached.scarcest();
     assert!(count >= 20, "{name}: {count}");
+}
+
+#[test]
+fn lists_of_calls_reach_everything_often() {
+    let mut reached = ReachedCalls::default();
+    for seed in 0..4_000 {
+        reached.count(&random::calls(seed));
+    }
+    println!("{reached}");
+    let (count, name) = reached.scarcest();
+    assert!(count >= 10, "{name}: {count}");
 }
 
 #[test]

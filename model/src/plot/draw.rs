@@ -204,7 +204,7 @@ fn draw_bars(canvas: &mut Canvas, columns: &Columns, stands: &[bool], y: f64, st
 }
 
 /// Numbers where they change and as far as there is room, over a line while one is there.
-fn draw_numbers(canvas: &mut Canvas, columns: &Columns, numbers: &[Option<i32>], base: f64) {
+fn draw_numbers(canvas: &mut Canvas, columns: &Columns, numbers: &[Option<i64>], base: f64) {
     let mut taken = 0.0;
     for (start, length, number) in runs(numbers) {
         let Some(number) = number else { continue };

@@ -62,7 +62,7 @@ pub enum Cells {
     /// A hollow bar above a filled one.
     Pairs(Vec<bool>, Vec<bool>),
     /// A count in each cycle, if one runs.
-    Numbers(Vec<Option<i32>>),
+    Numbers(Vec<Option<i64>>),
 }
 
 /// The cycles of one channel.
@@ -136,7 +136,7 @@ fn bars(label: &str, stands: Vec<bool>) -> Option<Row> {
 }
 
 /// A row of numbers, if there is one.
-fn numbers(label: &str, numbers: Vec<Option<i32>>) -> Option<Row> {
+fn numbers(label: &str, numbers: Vec<Option<i64>>) -> Option<Row> {
     numbers.iter().any(Option::is_some).then(|| Row {
         label: label.into(),
         cells: Cells::Numbers(numbers),
@@ -327,7 +327,7 @@ fn name(data: &MachineData, selection: Selection) -> String {
 }
 
 /// The count of a lower selection, with the 0 that ends it.
-fn delay(cycle: &Channelled) -> Option<i32> {
+fn delay(cycle: &Channelled) -> Option<i64> {
     let (before, after) = (cycle.before.selections(), cycle.after.selections());
     (before.count > 0 || after.count > 0).then_some(after.count)
 }

@@ -237,7 +237,7 @@ fn cross_se(random: &mut Xorshift, parts: &mut Parts) {
     }
 }
 
-fn damage_log(random: &mut Xorshift, parts: &mut Parts) {
+pub fn damage_log(random: &mut Xorshift, parts: &mut Parts) {
     let log = &mut parts.log;
     if log.is_empty() {
         log.push(words::record((0, 0), (0, 0), false).to_vec());

@@ -32,6 +32,16 @@ pub fn log(
     log
 }
 
+/// So many records for two channels with a past.
+pub fn records(random: &mut Xorshift, a: &Channel, b: &Channel, cycles: usize) -> Vec<Vec<u32>> {
+    let mut driver = Driver::new(random, a.data().data(), b.data().data());
+    (driver.a, driver.b) = (*a, *b);
+    if let Some(previous) = a.previous() {
+        driver.position = previous.clamp(-100_000_000, 100_000_000);
+    }
+    (0..cycles).map(|_| driver.record().to_vec()).collect()
+}
+
 /// How many cycles a log has: mostly few, now and then as many as a kit can hold.
 fn any_cycles(random: &mut Xorshift) -> usize {
     let cycles = match random.below(400) {
@@ -45,7 +55,7 @@ fn any_cycles(random: &mut Xorshift) -> usize {
     cycles as usize
 }
 
-fn push_remarks(random: &mut Xorshift, percent: usize, log: &mut Vec<Vec<u32>>) {
+pub fn push_remarks(random: &mut Xorshift, percent: usize, log: &mut Vec<Vec<u32>>) {
     while random.percent(percent) {
         let bits = random.pick(&[0, 1, 0x0fff_ffff, random.0 as u32]);
         log.push(vec![words::remark(bits)]);

@@ -1,11 +1,13 @@
 //! Seeded random kits with structure: valid ones, steered by the model so that every rule has
-//! its turn, and damaged ones, at every layer.
+//! its turn, and damaged ones, at every layer. Lists of calls likewise.
 
+mod calls;
 mod damage;
 mod drive;
 mod layers;
 mod reached;
 
+pub use calls::{calls, Answer, Call, Channels, ReachedCalls, CHANNELS};
 pub use reached::Reached;
 
 use crate::machine_data::{range, MachineData, COUNT};
@@ -100,6 +102,18 @@ pub(crate) struct Parts {
 }
 
 impl Parts {
+    /// A log alone.
+    pub fn of_log(log: Vec<Vec<u32>>) -> Parts {
+        Parts {
+            head_a: Vec::new(),
+            list_a: Vec::new(),
+            head_b: Vec::new(),
+            list_b: Vec::new(),
+            log,
+            tail: Vec::new(),
+        }
+    }
+
     pub fn bytes(&self) -> Vec<u8> {
         let words = self.head_a.iter();
         let words = words

@@ -379,11 +379,11 @@ impl Reached {
     }
 }
 
-const RANKS: [&str; 6] = ["none", "E", "D", "C", "B", "A"];
+pub(super) const RANKS: [&str; 6] = ["none", "E", "D", "C", "B", "A"];
 const CAMS: [&str; 8] = [
     "SN1+", "SN1-", "SN2+", "SN2-", "SN3+", "SN3-", "SN4+", "SN4-",
 ];
-const CODES: [&str; 13] = [
+pub(super) const CODES: [&str; 13] = [
     "1", "2", "3", "4", "5", "6", "7", "8", "9", "10", "11", "12", "13",
 ];
 
@@ -404,7 +404,7 @@ const EFFECTIVE: [Event; 4] = [
     Event::Sg4Effective,
 ];
 
-fn add_each(counts: &mut [u64], others: &[u64]) {
+pub(super) fn add_each(counts: &mut [u64], others: &[u64]) {
     for (count, other) in counts.iter_mut().zip(others) {
         *count += other;
     }

@@ -1,100 +1,13 @@
-//! `compare`: the proved monitor against the model, on random kits.
+//! Random kits: the listing and the log run.
 
+use crate::{Difference, Tally};
 use model::random::{self, Reached, Xorshift};
 use model::{listing, proved, words};
-use std::io::Write;
-use std::num::NonZero;
-use std::process::ExitCode;
-use std::{fmt, fs, thread};
-
-const USAGE: &str = "compare [KITS] [SEED]   the proved monitor against the model, on random kits";
-
-const KITS: u64 = 100_000;
-const SEED: u64 = 20_000_000;
-
-/// So many kits must reach everything.
-const ENOUGH: u64 = 100_000;
+use std::fmt;
 
 /// What a buffer holds before it is lent.
 const MARK: u8 = 0xa5;
 const MARK_WORD: u32 = 0xa5a5_a5a5;
-
-fn main() -> ExitCode {
-    let arguments: Vec<_> = std::env::args_os().skip(1).collect();
-    let number = |at: usize, default| match arguments.get(at) {
-        None => Some(default),
-        Some(argument) => argument.to_str()?.replace('_', "").parse().ok(),
-    };
-    let answer = match (number(0, KITS), number(1, SEED), arguments.len()) {
-        (Some(kits), Some(seed), ..=2) => report(kits, compare(kits, seed)),
-        _ => Err(USAGE.to_owned()),
-    };
-    let (Ok(text) | Err(text)) = &answer;
-    // A reader that has gone away does not change the answer.
-    let _ = writeln!(std::io::stdout(), "{text}");
-    ExitCode::from(u8::from(answer.is_err()))
-}
-
-/// What a comparison came to, in words; an error where something differs or was never tried.
-fn report(kits: u64, compared: Compared) -> Result<String, String> {
-    if let Some(difference) = compared.difference {
-        return Err(format!("{difference}\n{}", difference.keep()));
-    }
-    let tally = compared.tally;
-    match tally.scarcest() {
-        (0, name) if kits >= ENOUGH => Err(format!("{tally}never reached: {name}")),
-        _ => Ok(format!("{tally}0 differences")),
-    }
-}
-
-/// What the comparison over some seeds came to.
-#[derive(Default)]
-struct Compared {
-    tally: Tally,
-    /// The first one.
-    difference: Option<Difference>,
-}
-
-/// The comparison over so many seeds, in equal shares: the same for any number of threads.
-fn compare(kits: u64, seed: u64) -> Compared {
-    let threads = thread::available_parallelism().map_or(1, NonZero::get) as u64;
-    let start = |share: u64| kits / threads * share + share.min(kits % threads);
-    let shares = (0..threads).map(|share| start(share)..start(share + 1));
-    thread::scope(|scope| {
-        let running: Vec<_> = shares
-            .map(|share| scope.spawn(move || compare_share(share.map(|n| seed.wrapping_add(n)))))
-            .collect();
-        let mut all = Compared::default();
-        for share in running {
-            match share.join() {
-                Ok(share) => all.add(share),
-                Err(panic) => std::panic::resume_unwind(panic),
-            }
-        }
-        all
-    })
-}
-
-/// The comparison over some seeds, up to the first difference.
-fn compare_share(seeds: impl Iterator<Item = u64>) -> Compared {
-    let mut compared = Compared::default();
-    for seed in seeds {
-        let kit = kit(seed);
-        compared.difference = compared.tally.compare(seed, &kit);
-        if compared.difference.is_some() {
-            break;
-        }
-    }
-    compared
-}
-
-impl Compared {
-    /// Adds the next share.
-    fn add(&mut self, next: Compared) {
-        self.tally.add(&next.tally);
-        self.difference = self.difference.take().or(next.difference);
-    }
-}
 
 /// The kit of a seed: one in sixteen is but random bytes.
 fn kit(seed: u64) -> Vec<u8> {
@@ -107,14 +20,16 @@ fn kit(seed: u64) -> Vec<u8> {
 
 /// What was compared.
 #[derive(Default)]
-struct Tally {
+pub struct Kits {
     reached: Reached,
     buffers: Rooms,
     outputs: Rooms,
 }
 
-impl Tally {
-    fn add(&mut self, other: &Tally) {
+impl Tally for Kits {
+    const ENOUGH: u64 = 100_000;
+
+    fn add(&mut self, other: &Kits) {
         self.reached.add(&other.reached);
         self.buffers.add(&other.buffers);
         self.outputs.add(&other.outputs);
@@ -132,19 +47,22 @@ impl Tally {
     }
 
     /// Both functions of the proved monitor on one kit.
-    fn compare(&mut self, seed: u64, kit: &[u8]) -> Option<Difference> {
-        self.reached.count(kit);
+    fn compare(&mut self, seed: u64) -> Option<Difference> {
+        let kit = kit(seed);
+        self.reached.count(&kit);
         let mut random = Xorshift::new(!seed);
         let what = self
-            .compare_listing(&mut random, kit)
-            .or_else(|| self.compare_run(&mut random, kit))?;
+            .compare_listing(&mut random, &kit)
+            .or_else(|| self.compare_run(&mut random, &kit))?;
         Some(Difference {
-            seed,
-            kit: kit.to_vec(),
-            what,
+            what: format!("the kit of seed {seed} differs: {what}"),
+            file: format!("differs-{seed}.kit"),
+            bytes: kit,
         })
     }
+}
 
+impl Kits {
     fn compare_listing(&mut self, random: &mut Xorshift, kit: &[u8]) -> Option<String> {
         let text = listing::list(kit).into_bytes();
         let mut buffer = vec![MARK; self.buffers.pick(random, text.len())];
@@ -237,7 +155,7 @@ impl Rooms {
     }
 }
 
-impl fmt::Display for Tally {
+impl fmt::Display for Kits {
     fn fmt(&self, f: &mut fmt::Formatter) -> fmt::Result {
         write!(f, "{}", self.reached)?;
         let rooms = [self.buffers.named("buffer"), self.outputs.named("output")];
@@ -245,30 +163,6 @@ impl fmt::Display for Tally {
             writeln!(f, "{count:>10} {name}")?;
         }
         Ok(())
-    }
-}
-
-/// A kit on which the two differ.
-struct Difference {
-    seed: u64,
-    kit: Vec<u8>,
-    what: String,
-}
-
-impl Difference {
-    /// Writes the kit to a file in the current folder, and says so.
-    fn keep(&self) -> String {
-        let file = format!("differs-{}.kit", self.seed);
-        match fs::write(&file, &self.kit) {
-            Ok(()) => format!("its kit: {file}"),
-            Err(error) => format!("its kit cannot be kept: {file}: {error}"),
-        }
-    }
-}
-
-impl fmt::Display for Difference {
-    fn fmt(&self, f: &mut fmt::Formatter) -> fmt::Result {
-        write!(f, "the kit of seed {} differs: {}", self.seed, self.what)
     }
 }
 

@@ -18,6 +18,7 @@ fn main() {
     let folder = Path::new(&package).join(folder);
     let archive = folder.join("libaxis_monitor.a");
     println!("cargo:rerun-if-changed={}", archive.display());
+    println!("cargo:rustc-env=MONITOR_ARCHIVE={}", archive.display());
     println!("cargo:rustc-link-search=native={}", folder.display());
     println!("cargo:rustc-link-lib=static=axis_monitor");
 }

@@ -1,5 +1,7 @@
 //! `speed`: what a cycle costs the proved monitor and the model, on the same kits.
 
+use model::log::{self, Record};
+use model::proved::Channel;
 use model::{kit, listing, proved, random, words};
 use std::fmt;
 use std::hint::black_box;
@@ -44,6 +46,13 @@ fn tables(rounds: usize) -> Result<String, String> {
         for cost in costs(vec![Bench::new(assemble(lists)?, 0)], rounds)? {
             text += &row(name, divided(cost, 2));
         }
+    }
+    text += &head_of_calls();
+    for (name, pattern) in [
+        ("quiet SG", QUIET),
+        ("stops, F and acknowledgements", STOPS),
+    ] {
+        text += &Calls::new(pattern)?.row(name, rounds)?;
     }
     Ok(text)
 }
@@ -221,6 +230,136 @@ impl Bench {
             let sample = self.sample(call, self.repeats[of]);
             self.samples[of].push(sample);
         }
+    }
+}
+
+fn head_of_calls() -> String {
+    format!(
+        "\n| Nanoseconds a device cycle | Inside the log run | By single calls | Ratio | A channel's cycle | {} |\n{}\n",
+        "By single calls, of a million: median | 99.9 % below | worst",
+        "|---|---:|---:|---:|---:|---:|---:|---:|"
+    )
+}
+
+/// Device cycles that are timed one by one.
+const MILLION: usize = 1_000_000;
+
+/// A log that is run whole and cycle by cycle, as a board's loop does.
+struct Calls {
+    fresh: [Channel; 2],
+    channels: [Channel; 2],
+    words: Vec<u32>,
+    records: Vec<Record>,
+    /// B's reports to A.
+    reports: Vec<[u32; 3]>,
+    output: Vec<u32>,
+}
+
+impl Calls {
+    const CYCLES: usize = 2000;
+
+    fn new(pattern: Pattern) -> Result<Calls, String> {
+        let kit = words::of_bytes(&log(pattern, Calls::CYCLES)?);
+        let mut fresh = [Channel::NONE; 2];
+        let mut behind = 0;
+        for channel in &mut fresh {
+            let used = channel.read_list(&kit[behind..]);
+            behind += used.map_err(|refusal| format!("{refusal:?}"))?;
+        }
+        let words = kit[behind..].to_vec();
+        Ok(Calls {
+            fresh,
+            channels: fresh,
+            records: log::records(&words).collect(),
+            words,
+            reports: vec![[0; 3]; Calls::CYCLES],
+            output: vec![0; 3 * Calls::CYCLES],
+        })
+    }
+
+    /// The log as one call.
+    fn run(&mut self) {
+        self.channels = self.fresh;
+        let [a, b] = black_box(&mut self.channels);
+        let ran = proved::run_log(a, b, black_box(&self.words), &mut self.output);
+        black_box(ran.unwrap_or(0));
+    }
+
+    /// A device cycle: both reports, both channels, the device word.
+    #[inline(always)]
+    fn device_cycle(channels: &mut [Channel; 2], record: &Record) -> ([u32; 3], [u32; 3]) {
+        let Record { a, b, acknowledged } = *record;
+        let from_a = channels[0].report(a.position, a.inputs);
+        let from_b = channels[1].report(b.position, b.inputs);
+        let acknowledged = acknowledged.into();
+        let of_a = channels[0].cycle(a.position, a.inputs, acknowledged, &from_b);
+        let of_b = channels[1].cycle(b.position, b.inputs, acknowledged, &from_a);
+        let device = proved::device_word(of_a.word, of_b.word);
+        ([of_a.word, of_b.word, device], from_b)
+    }
+
+    /// The log by single calls.
+    fn single(&mut self) {
+        self.channels = self.fresh;
+        let channels = black_box(&mut self.channels);
+        let cycles = self.records.iter().zip(&mut self.reports);
+        for ((record, report), three) in cycles.zip(self.output.chunks_exact_mut(3)) {
+            let (words, from_b) = Calls::device_cycle(channels, record);
+            *report = from_b;
+            three.copy_from_slice(&words);
+        }
+    }
+
+    /// Channel A alone, with the reports that B gave.
+    fn one_channel(&mut self) {
+        self.channels = self.fresh;
+        let channel = black_box(&mut self.channels[0]);
+        for (record, report) in self.records.iter().zip(&self.reports) {
+            let side = record.a;
+            let acknowledged = record.acknowledged.into();
+            black_box(channel.cycle(side.position, side.inputs, acknowledged, report));
+        }
+    }
+
+    fn row(&mut self, name: &str, rounds: usize) -> Result<String, String> {
+        self.run();
+        let ran = (self.output.clone(), self.channels);
+        self.output.fill(0);
+        self.single();
+        if ran != (self.output.clone(), self.channels) {
+            return Err(format!("{name}: single calls and the log run differ"));
+        }
+        let mut samples = [const { Vec::new() }; 3];
+        for _ in 0..rounds {
+            for (call, samples) in [Calls::run, Calls::single, Calls::one_channel]
+                .into_iter()
+                .zip(&mut samples)
+            {
+                let start = Instant::now();
+                call(self);
+                samples.push(start.elapsed().as_nanos() as f64 / Calls::CYCLES as f64);
+            }
+        }
+        let [run, single, channel] = samples.map(Time::of);
+        let ratio = single.median / run.median;
+        let [median, most, worst] = self.million();
+        Ok(format!(
+            "| {name} | {run} | {single} | {ratio:.2} | {channel} | {median} | {most} | {worst} |\n"
+        ))
+    }
+
+    /// Each of a million device cycles by the clock, which costs some of it: the median, what
+    /// 99.9 % are below, and the worst.
+    fn million(&mut self) -> [u128; 3] {
+        self.channels = self.fresh;
+        let mut times = Vec::with_capacity(MILLION);
+        for record in self.records.iter().cycle().take(MILLION) {
+            let start = Instant::now();
+            black_box(Calls::device_cycle(black_box(&mut self.channels), record));
+            times.push(start.elapsed().as_nanos());
+        }
+        times.sort_unstable();
+        [MILLION / 2, MILLION / 1000 * 999, MILLION - 1].map(|place| times[place])
     }
 }
 

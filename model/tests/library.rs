@@ -1,0 +1,593 @@
+//! The archive as a board links it: its header, its names, calls that no kit can show, and the
+//! stack that each call takes.
+#![cfg(feature = "proved")]
+
+mod common;
+use common::{beside, bytes, data};
+use model::channel::image::{self, Image, Lent};
+use model::channel::{self, Report};
+use model::proved::{self, archive, Channel};
+use model::random::{self, Call, Channels};
+use model::{causes, device, list, listing, log, words, MachineData, Refusal};
+use std::arch::asm;
+use std::path::{Path, PathBuf};
+use std::process::Command;
+
+/// A file of the test's own.
+fn own(file: &str) -> PathBuf {
+    Path::new(env!("CARGO_TARGET_TMPDIR")).join(file)
+}
+
+/// Runs a program that must succeed: what it printed.
+fn run(program: &str, arguments: &[&str]) -> String {
+    let answer = Command::new(program).args(arguments).output();
+    let answer = answer.unwrap_or_else(|error| panic!("{program}: {error}"));
+    let errors = String::from_utf8_lossy(&answer.stderr);
+    assert!(answer.status.success(), "{program} {arguments:?}: {errors}");
+    String::from_utf8_lossy(&answer.stdout).into_owned()
+}
+
+/// What the model has to say of the header's numbers.
+fn facts() -> String {
+    let mut facts = vec![
+        format!("MONITOR_INTERFACE == {}", proved::interface()),
+        format!("MONITOR_DATA == {}", MachineData::lowest().data().len()),
+        format!("MONITOR_STATE == {}", image::WORDS),
+        format!("MONITOR_CODES == {}", causes::Causes::MOST),
+        format!("MONITOR_LOG == {}", log::LONGEST),
+        format!("MONITOR_KIT == {}", listing::LARGEST),
+        format!("MONITOR_IN_BITS == {}u", channel::INPUT_BITS),
+        format!("sizeof(monitor_channel) == {}", size_of::<Channel>()),
+    ];
+    let states = [
+        ("COUNT", image::word::COUNT),
+        ("K", image::word::K),
+        ("HAS_PREVIOUS", image::word::HAS_PREVIOUS),
+        ("PREVIOUS", image::word::PREVIOUS),
+        ("SELECTED", image::word::SELECTED),
+        ("EFFECTIVE", image::word::EFFECTIVE),
+        ("SG", image::word::SG),
+        ("OVERRIDE", image::word::OVERRIDE),
+        ("SBH_REFERENCE", image::word::SBH_REFERENCE),
+        ("DELAY", image::word::DELAY),
+        ("DIFFERING", image::word::RUN),
+        ("F", image::word::F),
+        ("F_LEFT", image::word::F_COUNT),
+        ("STOP", image::word::STOP),
+        ("RANK", image::word::RANK),
+        ("REST", image::word::REST),
+        ("CAMS", image::word::CAMS),
+    ];
+    facts.extend(states.map(|(name, place)| format!("MONITOR_STATE_{name} == {place}")));
+    let inputs = "SBH_SG_OFF SBH_OFF SG SE2 STOP_A_OFF STOP_C_OFF STOP_D_OFF STOP_E_OFF OVERRIDE";
+    let inputs: Vec<_> = inputs
+        .split(' ')
+        .map(|bit| format!("MONITOR_IN_{bit}"))
+        .collect();
+    facts.push(format!("({}) == MONITOR_IN_BITS", inputs.join(" | ")));
+    let facts = facts.iter().map(|fact| format!("MONITOR_HOLDS({fact});\n"));
+    facts.collect()
+}
+
+#[test]
+fn the_header_is_c_and_cpp() {
+    let include = beside("include");
+    let include = format!("-I{}", include.display());
+    let text = format!(
+        "#include \"axis_monitor.h\"\n#include \"axis_monitor.h\"\n{}int main(void) {{ return 0; }}\n",
+        facts()
+    );
+    for (compiler, language, standard) in [
+        ("cc", "c", "-std=c11"),
+        ("c++", "c++", "-std=c++11"),
+        ("c++", "c++", "-std=c++20"),
+    ] {
+        let file = own(&format!("header.{language}"));
+        std::fs::write(&file, &text).expect("the file");
+        let file = file.to_string_lossy();
+        let flags = ["-Wall", "-Wextra", "-Wpedantic", "-Werror", "-fsyntax-only"];
+        let arguments = [&["-x", language, standard, &include][..], &flags, &[&*file]];
+        run(compiler, &arguments.concat());
+    }
+}
+
+#[test]
+fn the_archive_has_its_names_and_asks_for_two() {
+    let text = run("nm", &["--extern-only", env!("MONITOR_ARCHIVE")]);
+    let names = |of: &str| -> Vec<&str> {
+        let lines = text.lines().map(|line| line.split_whitespace());
+        let pairs = lines.filter_map(|mut line| Some((line.next_back()?, line.next_back()?)));
+        let mut names: Vec<_> = pairs
+            .filter(|pair| pair.1 == of)
+            .map(|pair| pair.0)
+            .collect();
+        names.sort_unstable();
+        names
+    };
+    let exported = [
+        "monitor_cycle",
+        "monitor_device_word",
+        "monitor_interface",
+        "monitor_list_kit",
+        "monitor_read_list",
+        "monitor_report",
+        "monitor_run_kit",
+        "monitor_run_log",
+    ];
+    assert_eq!(names("T"), exported, "{text}");
+    let wanted = names("U");
+    let known = |name: &&str| ["memcpy", "memset"].contains(name);
+    assert!(wanted.iter().all(known), "{wanted:?}");
+    let lines = text.lines().filter(|line| line.contains(' ')).count();
+    assert_eq!(lines, exported.len() + wanted.len(), "{text}");
+}
+
+/// A channel of the library beside the model's.
+#[derive(Clone)]
+struct Pair {
+    model: Lent,
+    proved: Channel,
+}
+
+impl Pair {
+    fn fresh(data: MachineData) -> Pair {
+        let mut words = vec![words::head()];
+        for (number, &value) in data.data().iter().enumerate() {
+            let pieces = [value as u32 >> 16, value as u32].map(words::piece);
+            words.extend([words::datum(number, 0), pieces[0], pieces[1]]);
+        }
+        let mut proved = Channel::NONE;
+        assert_eq!(proved.read_list(&words), Ok(words.len()));
+        let model = Lent::fresh(data);
+        let pair = Pair { model, proved };
+        pair.same();
+        pair
+    }
+
+    #[track_caller]
+    fn same(&self) {
+        assert_eq!(self.proved.data, *self.model.data());
+        assert_eq!(self.proved.state, *self.model.state());
+    }
+
+    #[track_caller]
+    fn report(&self, position: i32, inputs: u32) -> Report {
+        let report = self.model.report(position, inputs);
+        assert_eq!(self.proved.report(position, inputs), proved::lent(report));
+        report
+    }
+
+    /// A cycle: the channel word, and the codes that stand, in order.
+    #[track_caller]
+    fn cycle(&mut self, position: i32, inputs: u32, report: Report) -> (u32, Vec<u8>) {
+        let wanted = self.model.cycle(position, inputs, false, report);
+        let given = self
+            .proved
+            .cycle(position, inputs, 0, &proved::lent(report));
+        let sorted = |codes: &[u8]| {
+            let mut codes = codes.to_vec();
+            codes.sort_unstable();
+            codes
+        };
+        let stand = wanted.causes.codes().len();
+        let (codes, behind) = given.codes.split_at(stand);
+        assert_eq!(given.word, wanted.word);
+        assert_eq!(sorted(codes), sorted(wanted.causes.codes()));
+        assert!(behind.iter().all(|&code| code == 0));
+        self.same();
+        (wanted.word, sorted(codes))
+    }
+}
+
+/// A log over two channels, with room for so many words.
+#[track_caller]
+fn run_log(a: &mut Pair, b: &mut Pair, words: &[u32], room: usize) -> Result<usize, Refusal> {
+    let mut output = Call::output(room);
+    let mut wanted_output = output.clone();
+    let wanted = image::run_log(&mut a.model, &mut b.model, words, &mut wanted_output);
+    let given = proved::run_log(&mut a.proved, &mut b.proved, words, &mut output);
+    assert_eq!(given, wanted);
+    assert_eq!(output, wanted_output);
+    a.same();
+    b.same();
+    given
+}
+
+/// The example's data: SG1 2000 with STOP C, held after two cycles.
+fn example() -> MachineData {
+    data(&[
+        (0, 12),
+        (1, 1),
+        (2, 10),
+        (3, 2000),
+        (7, 3),
+        (29, 2),
+        (32, 1),
+    ])
+}
+
+/// A log in which both channels are at these positions, SG1 selected.
+fn log_of(positions: &[i32]) -> Vec<u32> {
+    let records = positions
+        .iter()
+        .map(|&at| words::record((at, 2), (at, 2), false));
+    records.flatten().collect()
+}
+
+#[test]
+fn a_second_log_goes_on_from_the_first() {
+    let (mut a, mut b) = (Pair::fresh(example()), Pair::fresh(example()));
+    assert_eq!(run_log(&mut a, &mut b, &log_of(&[0, 401]), 6), Ok(2));
+    assert_eq!(
+        run_log(&mut a, &mut b, &log_of(&[401, 401, 412, 412]), 20),
+        Ok(4)
+    );
+    assert_eq!(a.proved.state[image::word::K], 6);
+    // The other way about, and on the listing's last line.
+    let mut output = [0; 3];
+    let ran = proved::run_log(&mut b.proved, &mut a.proved, &log_of(&[412]), &mut output);
+    assert_eq!((ran, output), (Ok(1), [0x0500_0085, 0x0500_0085, 0xa]));
+}
+
+#[test]
+fn a_refused_log_between_cycles_changes_nothing() {
+    let (mut a, mut b) = (Pair::fresh(example()), Pair::fresh(example()));
+    let whole = log_of(&[0, 401, 401]);
+    let long = vec![words::remark(0); log::LONGEST + 1];
+    for position in [0, 401, 401, 401, 412, 412] {
+        let (from_a, from_b) = (a.report(position, 2), b.report(position, 2));
+        let before = (a.proved, b.proved);
+        for (words, room, number, place) in [
+            (&whole[..], 8, 7, 9),
+            (&whole[..], 0, 7, 9),
+            (&whole[..20], 9, 6, 20),
+            (&whole[..20], 0, 6, 20),
+            (&whole[1..], 9, 6, 0),
+            (&long[..], 9, 6, log::LONGEST),
+        ] {
+            let refused = run_log(&mut a, &mut b, words, room);
+            assert_eq!(refused, Err(Refusal { number, place }));
+        }
+        assert_eq!((a.proved, b.proved), before);
+        let word_a = a.cycle(position, 2, from_b);
+        let word_b = b.cycle(position, 2, from_a);
+        assert_eq!(word_a, word_b);
+    }
+    assert_eq!(run_log(&mut a, &mut b, &[], 0), Ok(0));
+    assert_eq!(a.proved.state[image::word::STOP], 3);
+}
+
+#[test]
+fn a_refused_list_leaves_the_channel() {
+    let mut a = Pair::fresh(example());
+    let report = a.report(7, 2);
+    a.cycle(7, 2, report);
+    let before = a.proved;
+    for text in ["list A\n3 = 0", "list A\n50 = open", "list A\ncut"] {
+        let words = words::of_bytes(&bytes(text));
+        let refused = a.proved.read_list(&words);
+        assert_eq!(refused, list::read(&words).map(|read| read.1));
+        assert!(refused.is_err());
+        assert_eq!(a.proved, before);
+    }
+    assert_eq!(
+        a.proved.read_list(&[]),
+        Err(Refusal {
+            number: 1,
+            place: 0
+        })
+    );
+}
+
+/// Data, cycles with their positions and inputs, and the codes of the last.
+type Stands<'a> = (&'a [(usize, i32)], &'a [(i32, u32)], &'a [u8]);
+
+#[test]
+fn causes_by_their_codes() {
+    const NO_STOP: u32 = 0xf << 18;
+    let stop = |bit: u32| (0, NO_STOP & !(1 << bit));
+    let cases: [Stands; 11] = [
+        (&[(1, 1)], &[(0, 2), (100_000_001, 2)], &[1]),
+        (&[(1, 1)], &[(0, 2), (0, 6)], &[1]),
+        (&[(1, 1)], &[(0, 0), (11, 0)], &[2]),
+        (&[(1, 1), (3, 2000)], &[(0, 2), (401, 2)], &[3]),
+        (&[(1, 2), (12, 50)], &[(0, 1), (51, 1)], &[4]),
+        (&[(1, 16)], &[stop(18)], &[5]),
+        (&[(1, 16)], &[stop(19)], &[6]),
+        (&[(1, 16)], &[stop(20)], &[7]),
+        (&[(1, 16)], &[stop(21)], &[8]),
+        (&[(1, 16)], &[stop(19), (11, NO_STOP)], &[9]),
+        (
+            &[(1, 19), (3, 2000), (12, 50)],
+            &[(0, 2 | NO_STOP), (401, 2)],
+            &[3, 4, 5, 6, 7, 8],
+        ),
+    ];
+    for (stated, cycles, codes) in cases {
+        let mut channel = Pair::fresh(data(&[&[(0, 12), (2, 10)], stated].concat()));
+        let mut told = Vec::new();
+        for &(position, inputs) in cycles {
+            let report = channel.report(position, inputs);
+            told = channel.cycle(position, inputs, report).1;
+        }
+        assert_eq!(told, codes, "{stated:?}");
+    }
+}
+
+#[test]
+fn reports_by_other_channels_and_k_out_of_step() {
+    let mut a = Pair::fresh(example());
+    let mut b = Pair::fresh(data(&[(0, 11), (1, 1), (2, 10), (3, 2000), (7, 3)]));
+    // Datum 0 is another: F.
+    let from_b = b.report(0, 2);
+    assert_eq!(from_b.datum, 11);
+    assert_eq!(a.cycle(0, 2, from_b).1, [12, 13]);
+    // a is one cycle ahead: datum 1 beside datum 0.
+    let (from_a, from_b) = (a.report(0, 2), b.report(0, 2));
+    assert_eq!((from_a.datum, from_b.datum), (1, 11));
+    assert_eq!(a.cycle(0, 2, from_b).1, [12, 13]);
+    assert_eq!(b.cycle(0, 2, from_a).1, [12, 13]);
+    // A log with the two out of step, either way about.
+    assert_eq!(run_log(&mut a, &mut b, &log_of(&[0, 0, 0]), 9), Ok(3));
+    assert_eq!(run_log(&mut b, &mut a, &log_of(&[0; 60]), 200), Ok(60));
+    let k = |pair: &Pair| pair.proved.state[image::word::K];
+    assert_eq!((k(&a), k(&b)), (14, 13));
+    // Any report at all: of nobody's position, inputs and datum.
+    let mut c = Pair::fresh(data(&[(0, 12), (34, 2)]));
+    let own = c.report(0, 1);
+    let (position, inputs, datum) = (i32::MIN, u32::MAX, 13);
+    assert_eq!(c.cycle(0, 1, Report { position, ..own }).1, [10]);
+    let own = c.report(0, 1);
+    assert_eq!(c.cycle(0, 1, Report { inputs, ..own }).1, [11]);
+    assert_eq!(c.cycle(0, 1, Report { datum, ..own }).1, [12, 13]);
+    let own = c.report(0, 1);
+    assert_eq!(c.cycle(0, 1, own).1, [13]);
+}
+
+#[test]
+fn a_device_word_of_any_words() {
+    let words = [
+        0,
+        0x81,
+        1 << 2,
+        5 << 24,
+        6 << 24,
+        7 << 24,
+        0x0400_0000,
+        u32::MAX,
+    ];
+    for a in words {
+        for b in words {
+            assert_eq!(proved::device_word(a, b), device::word(a, b), "{a:x} {b:x}");
+        }
+    }
+}
+
+/// What a stack holds before it is lent.
+const PAINT: u64 = 0x5aa5_c33c_9669_f00f;
+
+/// Words of the stack: more than any call takes.
+const STACK: usize = 1 << 16;
+
+/// Calls a function of the archive on a painted stack: how many bytes it took, its return address
+/// and the arguments that go by the stack included.
+///
+/// # Safety
+/// The arguments must be those of the function.
+unsafe fn stack_of(function: *const (), arguments: &[u64]) -> usize {
+    let mut stack = vec![PAINT; STACK];
+    // The stack pointer is a multiple of 16 at a call, and the arguments from the seventh on stand there.
+    let mut top = STACK - 16;
+    top -= stack[top..].as_ptr() as usize % 16 / 8;
+    let by_stack = arguments.get(6..).unwrap_or(&[]);
+    stack[top..top + by_stack.len()].copy_from_slice(by_stack);
+    let by_register = |at: usize| arguments.get(at).copied().unwrap_or(0);
+    asm!(
+        "mov r12, rsp",
+        "mov rsp, r13",
+        "call r14",
+        "mov rsp, r12",
+        out("r12") _,
+        in("r13") stack[top..].as_mut_ptr(),
+        in("r14") function,
+        inout("rdi") by_register(0) => _,
+        inout("rsi") by_register(1) => _,
+        inout("rdx") by_register(2) => _,
+        inout("rcx") by_register(3) => _,
+        inout("r8") by_register(4) => _,
+        inout("r9") by_register(5) => _,
+        clobber_abi("C"),
+    );
+    let lowest = stack.iter().position(|&word| word != PAINT).unwrap_or(top);
+    assert!(lowest > 0, "the stack is too small");
+    8 * (top - lowest + by_stack.len())
+}
+
+/// The stack of a call of a list.
+fn stack_of_call(channels: &mut Channels, call: &Call) -> (&'static str, usize) {
+    let content = |of: usize| (*channels.0[of].data(), *channels.0[of].state());
+    let mut at = 0_usize;
+    let at = &raw mut at as u64;
+    // SAFETY: the arguments are those of the header, and each is lent for the call.
+    let answer = unsafe {
+        match *call {
+            Call::Lend { .. } => ("", 0),
+            Call::ReadList { of, ref words } => {
+                let (mut data, mut state) = content(of);
+                let (words, length) = (words.as_ptr() as u64, words.len() as u64);
+                let lent = [&raw mut data as u64, &raw mut state as u64];
+                let arguments = [words, length, lent[0], lent[1], at];
+                (
+                    "monitor_read_list",
+                    stack_of(archive::monitor_read_list as _, &arguments),
+                )
+            }
+            Call::Report {
+                of,
+                position,
+                inputs,
+            } => {
+                let (data, state) = content(of);
+                let mut report = [0_u32; 3];
+                let lent = [&raw const data as u64, &raw const state as u64];
+                let (position, report) = (position as u64, &raw mut report as u64);
+                let arguments = [lent[0], lent[1], position, inputs.into(), report];
+                (
+                    "monitor_report",
+                    stack_of(archive::monitor_report as _, &arguments),
+                )
+            }
+            Call::Cycle {
+                of,
+                position,
+                inputs,
+                acknowledged,
+                report,
+            } => {
+                let (data, mut state) = content(of);
+                let (report, mut codes) = (proved::lent(report), [0_u8; 13]);
+                let arguments = [
+                    &raw const data as u64,
+                    &raw mut state as u64,
+                    position as u64,
+                    inputs.into(),
+                    acknowledged.into(),
+                    &raw const report as u64,
+                    &raw mut codes as u64,
+                ];
+                (
+                    "monitor_cycle",
+                    stack_of(archive::monitor_cycle as _, &arguments),
+                )
+            }
+            Call::DeviceWord { a, b } => {
+                let arguments = [a.into(), b.into()];
+                (
+                    "monitor_device_word",
+                    stack_of(archive::monitor_device_word as _, &arguments),
+                )
+            }
+            Call::RunLog {
+                a,
+                b,
+                ref words,
+                room,
+            } => {
+                let (data_a, mut state_a) = content(a);
+                let (data_b, mut state_b) = content(b);
+                let mut output = Call::output(room);
+                let arguments = [
+                    &raw const data_a as u64,
+                    &raw mut state_a as u64,
+                    &raw const data_b as u64,
+                    &raw mut state_b as u64,
+                    words.as_ptr() as u64,
+                    words.len() as u64,
+                    output.as_mut_ptr() as u64,
+                    room as u64,
+                    at,
+                ];
+                (
+                    "monitor_run_log",
+                    stack_of(archive::monitor_run_log as _, &arguments),
+                )
+            }
+        }
+    };
+    channels.answer(call);
+    answer
+}
+
+/// The stack of a kit's listing and of its run.
+fn stack_of_kit(kit: &[u8]) -> [(&'static str, usize); 2] {
+    let words = words::of_bytes(kit);
+    let mut text = vec![0_u8; 1 << 17];
+    let mut output = vec![0_u32; words.len()];
+    let mut told = [0_u64; 3];
+    let list = [
+        kit.as_ptr() as u64,
+        kit.len() as u64,
+        text.as_mut_ptr() as u64,
+        1 << 17,
+    ];
+    let length = words.len() as u64;
+    let run = [
+        words.as_ptr() as u64,
+        length,
+        output.as_mut_ptr() as u64,
+        length,
+        &raw mut told as u64,
+    ];
+    let name = match kit.len() {
+        ..=10_240 => "monitor_list_kit, up to 10,240 bytes",
+        _ => "monitor_list_kit, more",
+    };
+    // SAFETY: the arguments are those of the header, and each is lent for the call.
+    unsafe {
+        [
+            (name, stack_of(archive::monitor_list_kit as _, &list)),
+            (
+                "monitor_run_kit",
+                stack_of(archive::monitor_run_kit as _, &run),
+            ),
+        ]
+    }
+}
+
+#[test]
+fn each_call_keeps_to_its_stack() {
+    // A name that the linker finds on its first call must not count.
+    proved::text(&bytes("lists A and B"));
+    let mut most: Vec<(&str, usize, Option<usize>)> = vec![
+        ("monitor_interface", 0, Some(64)),
+        ("monitor_device_word", 0, Some(64)),
+        ("monitor_report", 0, Some(256)),
+        ("monitor_cycle", 0, Some(1 << 10)),
+        ("monitor_read_list", 0, Some(4 << 10)),
+        ("monitor_run_log", 0, Some(4 << 10)),
+        ("monitor_run_kit", 0, Some(8 << 10)),
+        ("monitor_list_kit, up to 10,240 bytes", 0, Some(24 << 10)),
+        ("monitor_list_kit, more", 0, Some(128 << 10)),
+    ];
+    let mut took = |(name, bytes): (&str, usize)| {
+        if let Some(row) = most.iter_mut().find(|row| row.0 == name) {
+            row.1 = row.1.max(bytes);
+        }
+    };
+    // SAFETY: nothing is lent.
+    took(("monitor_interface", unsafe {
+        stack_of(archive::monitor_interface as _, &[])
+    }));
+    for seed in 0..200 {
+        let mut channels = Channels::default();
+        for call in random::calls(seed) {
+            took(stack_of_call(&mut channels, &call));
+        }
+    }
+    for seed in 0..300 {
+        stack_of_kit(&random::kit(seed))
+            .into_iter()
+            .for_each(&mut took);
+    }
+    for cycles in [0, 1, 300, 2_000] {
+        stack_of_kit(&random::kit_of(5, cycles))
+            .into_iter()
+            .for_each(&mut took);
+    }
+    for (name, bytes, limit) in most {
+        println!("{bytes:>7} bytes of stack: {name}");
+        let limit = limit.unwrap_or(usize::MAX);
+        assert!(
+            bytes > 0 && bytes < limit,
+            "{name}: {bytes}, {limit} allowed"
+        );
+    }
+}
+
+/// The state's words are those that the header says, in their order.
+#[test]
+fn a_fresh_channel_has_51_data_and_else_0() {
+    let mut fresh: Image = [0; image::WORDS];
+    fresh[image::word::COUNT] = 51;
+    assert_eq!(Pair::fresh(example()).proved.state, fresh);
+}

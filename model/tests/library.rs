@@ -122,6 +122,60 @@ fn the_archive_has_its_names_and_asks_for_two() {
     assert_eq!(lines, exported.len() + wanted.len(), "{text}");
 }
 
+#[test]
+fn the_archive_has_no_variable() {
+    let text = run("nm", &[env!("MONITOR_ARCHIVE")]);
+    let kinds = text
+        .lines()
+        .filter_map(|line| line.split_whitespace().nth_back(1));
+    let variable = |kind: &str| "bBdDsSgGcC".contains(kind);
+    assert_eq!(kinds.filter(|kind| variable(kind)).count(), 0, "{text}");
+}
+
+#[test]
+fn an_array_of_length_0_may_be_null() {
+    let (words, output) = (std::ptr::null(), std::ptr::null_mut());
+    let (mut a, mut b) = (Pair::fresh(example()), Pair::fresh(example()));
+    let (before, mut at, mut told) = ((a.proved, b.proved), usize::MAX, [u64::MAX; 3]);
+    let (a, b) = (&mut a.proved, &mut b.proved);
+    // SAFETY: what has a length has it, and the data of one channel are only read.
+    unsafe {
+        let read = archive::monitor_read_list(words, 0, &mut a.data, &mut a.state, &mut at);
+        assert_eq!((read, at), (1, 0));
+        let ran = archive::monitor_run_log(
+            &a.data,
+            &mut a.state,
+            &a.data,
+            &mut b.state,
+            words,
+            0,
+            output,
+            0,
+            &mut at,
+        );
+        assert_eq!((ran, at), (0, 0));
+        let log = log_of(&[0]);
+        let (words_of_log, length) = (log.as_ptr(), log.len());
+        let refused = archive::monitor_run_log(
+            &a.data,
+            &mut a.state,
+            &a.data,
+            &mut b.state,
+            words_of_log,
+            length,
+            output,
+            0,
+            &mut at,
+        );
+        assert_eq!((refused, at), (7, 3));
+        let ran = archive::monitor_run_kit(words, 0, output, 0, &mut told);
+        assert_eq!((ran, told), (0, [1, 0, b'A'.into()]));
+        let length = archive::monitor_list_kit(words.cast(), 0, output.cast(), 0);
+        assert_eq!(length, b"refused 1 0 A\n".len());
+    }
+    assert_eq!((*a, *b), before);
+}
+
 /// A channel of the library beside the model's.
 #[derive(Clone)]
 struct Pair {

@@ -54,6 +54,8 @@ fn tables(rounds: usize) -> Result<String, String> {
     ] {
         text += &Calls::new(pattern)?.row(name, rounds)?;
     }
+    text += "\n| Nanoseconds a call, quiet SG | |\n|---|---:|\n";
+    text += &Calls::new(QUIET)?.rows_of_calls(rounds);
     Ok(text)
 }
 
@@ -241,6 +243,9 @@ fn head_of_calls() -> String {
     )
 }
 
+/// A loop over one call.
+type Looped = fn(&mut Calls);
+
 /// Device cycles that are timed one by one.
 const MILLION: usize = 1_000_000;
 
@@ -248,6 +253,7 @@ const MILLION: usize = 1_000_000;
 struct Calls {
     fresh: [Channel; 2],
     channels: [Channel; 2],
+    lists: Vec<u32>,
     words: Vec<u32>,
     records: Vec<Record>,
     /// B's reports to A.
@@ -266,10 +272,11 @@ impl Calls {
             let used = channel.read_list(&kit[behind..]);
             behind += used.map_err(|refusal| format!("{refusal:?}"))?;
         }
-        let words = kit[behind..].to_vec();
+        let (lists, words) = (kit[..behind].to_vec(), kit[behind..].to_vec());
         Ok(Calls {
             fresh,
             channels: fresh,
+            lists,
             records: log::records(&words).collect(),
             words,
             reports: vec![[0; 3]; Calls::CYCLES],
@@ -321,6 +328,52 @@ impl Calls {
         }
     }
 
+    /// The report of channel A.
+    fn report(&mut self) {
+        for record in &self.records {
+            let channel = black_box(&self.channels[0]);
+            black_box(channel.report(record.a.position, record.a.inputs));
+        }
+    }
+
+    /// The device word.
+    fn device_word(&mut self) {
+        for three in self.output.chunks_exact(3) {
+            black_box(proved::device_word(three[0], three[1]));
+        }
+    }
+
+    /// List A.
+    fn read_list(&mut self) {
+        let (channel, lists) = (&mut self.channels[0], &self.lists);
+        for _ in 0..Calls::CYCLES {
+            black_box(channel.read_list(black_box(lists)).is_ok());
+        }
+    }
+
+    /// What each call costs, by a loop over it.
+    fn rows_of_calls(&mut self, rounds: usize) -> String {
+        let calls: [(&str, Looped); 4] = [
+            ("monitor_device_word", Calls::device_word),
+            ("monitor_report", Calls::report),
+            ("monitor_cycle", Calls::one_channel),
+            ("monitor_read_list", Calls::read_list),
+        ];
+        self.single();
+        let rows = calls.map(|(name, call)| {
+            let samples = (0..rounds).map(|_| self.sample(call)).collect();
+            format!("| `{name}` | {} |\n", Time::of(samples))
+        });
+        rows.concat()
+    }
+
+    /// Nanoseconds of one of the cycles that a function goes through.
+    fn sample(&mut self, call: Looped) -> f64 {
+        let start = Instant::now();
+        call(self);
+        start.elapsed().as_nanos() as f64 / Calls::CYCLES as f64
+    }
+
     fn row(&mut self, name: &str, rounds: usize) -> Result<String, String> {
         self.run();
         let ran = (self.output.clone(), self.channels);
@@ -329,15 +382,11 @@ impl Calls {
         if ran != (self.output.clone(), self.channels) {
             return Err(format!("{name}: single calls and the log run differ"));
         }
+        let calls = [Calls::run, Calls::single, Calls::one_channel];
         let mut samples = [const { Vec::new() }; 3];
         for _ in 0..rounds {
-            for (call, samples) in [Calls::run, Calls::single, Calls::one_channel]
-                .into_iter()
-                .zip(&mut samples)
-            {
-                let start = Instant::now();
-                call(self);
-                samples.push(start.elapsed().as_nanos() as f64 / Calls::CYCLES as f64);
+            for (call, samples) in calls.into_iter().zip(&mut samples) {
+                samples.push(self.sample(call));
             }
         }
         let [run, single, channel] = samples.map(Time::of);

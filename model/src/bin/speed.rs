@@ -54,6 +54,7 @@ fn tables(rounds: usize) -> Result<String, String> {
     ] {
         text += &Calls::new(pattern)?.row(name, rounds)?;
     }
+    text += &format!("The clock takes {} of each of the million.\n", clock());
     text += "\n| Nanoseconds a call, quiet SG | |\n|---|---:|\n";
     text += &Calls::new(QUIET)?.rows_of_calls(rounds);
     Ok(text)
@@ -241,6 +242,15 @@ fn head_of_calls() -> String {
         "By single calls, of a million: median | 99.9 % below | worst",
         "|---|---:|---:|---:|---:|---:|---:|---:|"
     )
+}
+
+/// Nanoseconds that the clock itself takes between two looks at it.
+fn clock() -> u128 {
+    let mut times: Vec<_> = (0..10_000)
+        .map(|_| Instant::now().elapsed().as_nanos())
+        .collect();
+    times.sort_unstable();
+    times[times.len() / 2]
 }
 
 /// A loop over one call.

@@ -58,6 +58,17 @@ fn each_committed_picture_is_in_the_table() {
 }
 
 #[test]
+fn each_committed_picture_is_linked_in_the_suppliers_paper() {
+    let paper = fs::read_to_string(beside("docs").join("SUPPLIER.md")).expect("the paper");
+    for (picture, _) in table() {
+        assert!(
+            paper.contains(&format!("](pictures/{picture})")),
+            "{picture}"
+        );
+    }
+}
+
+#[test]
 fn any_kit_has_a_picture() {
     let ranges = [
         Range::default(),

@@ -1,8 +1,9 @@
 //! The conformance kits: a folder of kits as text, the files made of them, and their power.
 //!
-//! Each kit is a file `NAME.txt`. A line `# 01: "..."` quotes the sentence of document 01 that
-//! it tries. A comment `#> 2 03000081 03000081 7` says a line of its listing, worked out by hand
-//! from document 01; a kit that lists otherwise is refused here, so that it cannot go unnoticed.
+//! Each kit is a file `NAME.txt`. A line `# 01 (SUPPLIER 7.2): "..."` quotes the sentence of
+//! document 01 that it tries, beside the section of `docs/SUPPLIER.md` in which its rule stands.
+//! A comment `#> 2 03000081 03000081 7` says a line of its listing, worked out by hand from
+//! document 01; a kit that lists otherwise is refused here, so that it cannot go unnoticed.
 
 use crate::kit::{self, Fault};
 use crate::{listing, Deviation};
@@ -48,19 +49,49 @@ impl Kit {
     }
 }
 
-/// A text must quote document 01.
-fn quotes(text: &str) -> Result<(), Fault> {
-    let quoted = text
-        .lines()
-        .filter_map(|line| line.strip_prefix("# 01: \""))
-        .any(|rest| rest.len() > 1 && rest.ends_with('"'));
-    match quoted {
-        true => Ok(()),
-        false => Err(Fault {
+/// A sentence of document 01, or a part of one, and the section of `docs/SUPPLIER.md` in which
+/// its rule stands.
+#[derive(Clone, Debug, PartialEq, Eq)]
+pub struct Quote {
+    pub section: String,
+    pub sentence: String,
+}
+
+/// The quotes of a text: one at least, and each with its section.
+pub fn quotes(text: &str) -> Result<Vec<Quote>, Fault> {
+    let lines = text.lines().enumerate();
+    let lines = lines.filter(|(_, line)| is_quote(line));
+    let quotes = lines.map(|(index, line)| {
+        quote(line).ok_or(Fault {
+            line: index + 1,
+            reason: "a quote is # 01 (SUPPLIER 7.2): \"...\", with its section".into(),
+        })
+    });
+    match quotes.collect::<Result<Vec<Quote>, Fault>>()? {
+        none if none.is_empty() => Err(Fault {
             line: 1,
-            reason: "no line # 01: \"...\" quotes document 01".into(),
+            reason: "no line # 01 (SUPPLIER 7.2): \"...\" quotes document 01".into(),
         }),
+        quotes => Ok(quotes),
     }
+}
+
+/// Whether a line is there to quote document 01.
+pub fn is_quote(line: &str) -> bool {
+    let behind = line.strip_prefix("# 01");
+    behind.is_some_and(|rest| rest.starts_with([' ', ':', ',']))
+}
+
+/// `# 01 (SUPPLIER 7.2): "..."`
+fn quote(line: &str) -> Option<Quote> {
+    let rest = line.strip_prefix("# 01 (SUPPLIER ")?;
+    let (section, sentence) = rest.split_once("): \"")?;
+    let sentence = sentence.strip_suffix('"')?;
+    let number = |part: &str| !part.is_empty() && part.bytes().all(|b| b.is_ascii_digit());
+    (section.split('.').all(number) && !sentence.is_empty()).then(|| Quote {
+        section: section.into(),
+        sentence: sentence.into(),
+    })
 }
 
 /// Each line of the listing that a text says must be one.

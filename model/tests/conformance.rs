@@ -28,7 +28,7 @@ fn each_kit_begins_with_a_quote_of_document_01() {
     for kit in kits() {
         let text = beside("kits").join(&kit.name).with_extension("txt");
         let text = fs::read_to_string(text).expect(&kit.name);
-        assert!(text.starts_with("# 01: \""), "{}", kit.name);
+        assert!(conformance::is_quote(&text), "{}", kit.name);
     }
 }
 
@@ -65,26 +65,55 @@ fn the_page_names_kits_that_are_there() {
 fn a_kit_must_quote_and_list_as_it_says() {
     let kit = "lists A and B\nlog\nboth 0 off";
     for (text, line, reason) in [
-        (kit.into(), 1, "no line # 01: \"...\" quotes document 01"),
-        (format!("# 01: \"\"\n{kit}"), 1, "no line # 01"),
+        (kit.into(), 1, "no line # 01 (SUPPLIER 7.2): \"...\" quotes"),
         (
-            format!("# 01: \"T\"\n{kit} #> 1 00000080 00000080 3"),
+            format!("# 01 (SUPPLIER 3): \"T\"\n{kit} #> 1 00000080 00000080 3"),
             4,
             "is no line of the listing: '1 00000080 00000080 1'",
         ),
         (
-            format!("# 01: \"T\"\n#> refused 1 0 A\n{kit}"),
+            format!("# 01 (SUPPLIER 3): \"T\"\n#> refused 1 0 A\n{kit}"),
             2,
             "'refused 1 0 A' is no line",
         ),
-        (format!("# 01: \"T\"\n{kit} lots"), 4, "'lots' is not known"),
+        (
+            format!("# 01 (SUPPLIER 3): \"T\"\n{kit} lots"),
+            4,
+            "'lots' is not known",
+        ),
     ] {
         let fault = Kit::of("kit", &text).expect_err(&text);
         assert_eq!(fault.line, line, "{text}: {fault}");
         assert!(fault.reason.contains(reason), "{text}: {fault}");
     }
-    let said = format!("# 01: \"T\"\n{kit}  #> 1 00000080 00000080 1  words\n");
+    let said = format!("# 01 (SUPPLIER 3): \"T\"\n{kit}  #> 1 00000080 00000080 1  words\n");
     assert!(Kit::of("kit", &said).is_ok());
+}
+
+#[test]
+fn a_quote_has_its_section() {
+    let text = "# 01 (SUPPLIER 7.2): \"A \"b\".\"\n# 01.\n# 010\nlist A\n# 01 (SUPPLIER 11): \"c\"";
+    let quotes = conformance::quotes(text).expect(text);
+    let told: Vec<(&str, &str)> = quotes
+        .iter()
+        .map(|quote| (quote.section.as_str(), quote.sentence.as_str()))
+        .collect();
+    assert_eq!(told, [("7.2", "A \"b\"."), ("11", "c")]);
+    for wrong in [
+        "# 01: \"T\"",
+        "# 01, 3: \"T\"",
+        "# 01 (SUPPLIER): \"T\"",
+        "# 01 (SUPPLIER ): \"T\"",
+        "# 01 (SUPPLIER 7.): \"T\"",
+        "# 01 (SUPPLIER x): \"T\"",
+        "# 01 (SUPPLIER 3): T",
+        "# 01 (SUPPLIER 3): \"\"",
+    ] {
+        let text = format!("# 01 (SUPPLIER 3): \"T\"\n{wrong}\nlists A and B\n");
+        let fault = Kit::of("kit", &text).expect_err(wrong);
+        assert_eq!(fault.line, 2, "{wrong}: {fault}");
+        assert!(fault.reason.starts_with("a quote is # 01 ("), "{fault}");
+    }
 }
 
 /// A folder of its own for a test, empty.
@@ -112,10 +141,10 @@ fn the_command_makes_the_files_and_takes_stale_ones_away() {
     fs::write(data.join("stale.kit"), "x").expect("stale");
     fs::write(data.join("other"), "x").expect("other");
     fs::write(texts.join("README.md"), "A page.").expect("page");
-    fs::write(texts.join("b.txt"), "# 01: \"T\"\n").expect("b");
+    fs::write(texts.join("b.txt"), "# 01 (SUPPLIER 3): \"T\"\n").expect("b");
     fs::write(
         texts.join("b-1.txt"),
-        "# 01: \"T\"\nlists A and B\nboth 0 off\n",
+        "# 01 (SUPPLIER 3): \"T\"\nlists A and B\nboth 0 off\n",
     )
     .expect("b-1");
     let answer = kit(&["conformance".as_ref(), &texts, &made]);
@@ -140,16 +169,20 @@ fn the_command_makes_the_files_and_takes_stale_ones_away() {
 #[test]
 fn the_command_names_file_line_and_reason() {
     let (texts, made) = (folder("faults"), folder("not-made"));
-    let page: &[u8] = b"# 01: \"T\"\n";
+    let page: &[u8] = b"# 01 (SUPPLIER 3): \"T\"\n";
     let empty = kit(&["conformance".as_ref(), &texts, &made]);
     assert!(String::from_utf8_lossy(&empty.stderr).contains("faults: no kits"));
     for (file, bytes, told) in [
         (
             "a.txt",
-            &b"# 01: \"T\"\nlots\n"[..],
+            &b"# 01 (SUPPLIER 3): \"T\"\nlots\n"[..],
             "a.txt: line 2: 'lots' is not known",
         ),
-        ("b.txt", b"# 01: \"T\"\n\n\xff", "b.txt: line 3: no text"),
+        (
+            "b.txt",
+            b"# 01 (SUPPLIER 3): \"T\"\n\n\xff",
+            "b.txt: line 3: no text",
+        ),
         ("c.txt", b"list A", "c.txt: line 1: no line # 01"),
         ("d", page, "d: the file of a kit's text ends in .txt"),
         (

@@ -2,12 +2,15 @@
 
 mod common;
 use common::beside;
+use model::conformance::{self, Quote};
 use std::collections::{BTreeMap, BTreeSet};
 use std::fs;
 use std::path::{Path, PathBuf};
 
 const HEAD: &str =
     "| Id | Document 01 | Definition | Theorem or contract | Kits | Wrong programs |";
+
+const SECTIONS: &str = "| Section | Sentences |";
 
 /// A row of a table: an id and what is cited for its sentence.
 struct Row {
@@ -25,6 +28,8 @@ struct Page {
     rows: Vec<Row>,
     /// The numbers of the notes, as they come.
     notes: Vec<String>,
+    /// The sections of the supplier's paper, or a dash, each with its sentences.
+    sections: Vec<(String, String)>,
     faults: Vec<String>,
 }
 
@@ -35,7 +40,9 @@ struct Repository {
     theorems: BTreeSet<String>,
     edits: BTreeSet<String>,
     /// Each kit with its quotes of document 01.
-    kits: BTreeMap<String, Vec<String>>,
+    kits: BTreeMap<String, Vec<Quote>>,
+    /// The sections of the supplier's paper.
+    sections: BTreeSet<String>,
 }
 
 // ---- the page
@@ -74,17 +81,22 @@ fn note(text: &str) -> Option<&str> {
 
 fn page(text: &str) -> Page {
     let mut page = Page::default();
-    let mut table = false;
+    let mut table = "";
     for line in text.lines() {
-        if line == HEAD {
-            table = true;
+        if [HEAD, SECTIONS].contains(&line) {
+            table = line;
         } else if !line.starts_with('|') {
-            table = false;
+            table = "";
             page.notes.extend(note(line).map(String::from));
-        } else if table && !line.starts_with("|--") {
+        } else if table == HEAD && !line.starts_with("|--") {
             match row(line) {
                 Ok(row) => page.rows.push(row),
                 Err(fault) => page.faults.push(fault),
+            }
+        } else if table == SECTIONS && !line.starts_with("|--") {
+            match <[String; 2]>::try_from(cells(line)) {
+                Ok([section, ids]) => page.sections.push((section, ids)),
+                Err(cells) => page.faults.push(format!("{}: no two cells", cells[0])),
             }
         }
     }
@@ -201,13 +213,15 @@ fn stem(path: &Path) -> String {
     path.file_stem().expect("a name").to_string_lossy().into()
 }
 
-/// The quotes at a kit's front.
-fn quotes(text: &str) -> Vec<String> {
-    let lines = text.lines().filter_map(|line| line.strip_prefix("# 01: "));
-    lines
-        .map(|quote| quote.trim().trim_matches('"').to_string())
-        .filter(|quote| !quote.is_empty())
-        .collect()
+/// The numbers of a paper's headings, `## 7. ..` and `### 7.2 ..`.
+fn headings(text: &str) -> BTreeSet<String> {
+    let heading = |line: &str| {
+        let number = line.trim_start_matches('#').strip_prefix(' ')?;
+        let number = number.split(' ').next()?.trim_end_matches('.');
+        let is_number = number.starts_with(|c: char| c.is_ascii_digit());
+        (line.starts_with("##") && is_number).then(|| number.to_string())
+    };
+    text.lines().filter_map(heading).collect()
 }
 
 fn add_crate(all: &mut Repository, folder: &Path) {
@@ -242,8 +256,11 @@ fn repository() -> Repository {
     }
     for path in files(&beside("kits"), ".txt") {
         let text = fs::read_to_string(&path).expect("a kit");
-        all.kits.insert(stem(&path), quotes(&text));
+        let quotes = conformance::quotes(&text);
+        all.kits.insert(stem(&path), quotes.unwrap_or_default());
     }
+    let paper = fs::read_to_string(beside("docs").join("SUPPLIER.md")).expect("the paper");
+    all.sections = headings(&paper);
     all
 }
 
@@ -319,21 +336,78 @@ fn stands(quote: &str, sentence: &str) -> bool {
     sentence.contains(quote) || quote.contains(sentence)
 }
 
-/// A kit is cited, and each of its quotes stands in a row that cites it.
-fn of_kit(kit: &str, quotes: &[String], rows: &[Row]) -> Vec<String> {
+/// The rows that a part of a cell names: `C5` one, `C5 to C9` those of the page from C5 to C9.
+fn named<'a>(part: &str, rows: &'a [Row]) -> Option<&'a [Row]> {
+    let (first, last) = part.split_once(" to ").unwrap_or((part, part));
+    let at = |id: &str| rows.iter().position(|row| row.id == id);
+    rows.get(at(first)?..=at(last)?)
+        .filter(|rows| !rows.is_empty())
+}
+
+/// The sections of each sentence, by its id.
+fn sections(page: &Page) -> BTreeMap<&str, Vec<&str>> {
+    let mut sections: BTreeMap<&str, Vec<&str>> = BTreeMap::new();
+    for (section, ids) in &page.sections {
+        let rows = ids.split(", ").filter_map(|part| named(part, &page.rows));
+        for row in rows.flatten() {
+            sections.entry(&row.id).or_default().push(section);
+        }
+    }
+    sections
+}
+
+/// Each sentence has a section or is behind the dash, and what is named is there.
+fn of_sections(page: &Page, there: &BTreeSet<String>) -> Vec<String> {
+    let mut faults = Vec::new();
+    for (section, ids) in &page.sections {
+        if section != "–" && !there.contains(section) {
+            faults.push(format!("section {section}: the paper has none"));
+        }
+        let gone = ids
+            .split(", ")
+            .filter(|part| named(part, &page.rows).is_none());
+        faults.extend(gone.map(|part| format!("section {section}: no rows '{part}'")));
+    }
+    let sections = sections(page);
+    let ids = page.rows.iter().map(|row| row.id.as_str());
+    let homeless = ids.filter(|id| !sections.contains_key(id));
+    faults.extend(homeless.map(|id| format!("{id}: no section has it")));
+    faults
+}
+
+/// A kit is cited, and each of its quotes stands in a row that cites it and has its section.
+fn of_kit(
+    kit: &str,
+    quotes: &[Quote],
+    rows: &[Row],
+    sections: &BTreeMap<&str, Vec<&str>>,
+) -> Vec<String> {
     let citing: Vec<&Row> = rows.iter().filter(|row| cites(&row.kits, kit)).collect();
     if citing.is_empty() {
         return vec![format!("kit {kit}: no row cites it")];
     }
     if quotes.is_empty() {
-        return vec![format!("kit {kit}: it quotes nothing")];
+        return vec![format!(
+            "kit {kit}: no quotes, or not each with its section"
+        )];
     }
-    let homeless = quotes
-        .iter()
-        .filter(|quote| !citing.iter().any(|row| stands(quote, &row.sentence)));
-    homeless
-        .map(|quote| format!("kit {kit}: no row that cites it has \"{quote}\""))
-        .collect()
+    let fault = |Quote { section, sentence }: &Quote| {
+        let rows = citing.iter().filter(|row| stands(sentence, &row.sentence));
+        let ids: Vec<&str> = rows.map(|row| row.id.as_str()).collect();
+        if ids.is_empty() {
+            return Some(format!("no row that cites it has \"{sentence}\""));
+        }
+        let theirs = ids.iter().filter_map(|id| sections.get(id)).flatten();
+        let theirs: BTreeSet<&str> = theirs.copied().collect();
+        // A row without a section is told of by itself.
+        (!theirs.is_empty() && !theirs.contains(section.as_str())).then(|| {
+            let theirs: Vec<&str> = theirs.into_iter().collect();
+            let theirs = theirs.join(" or ");
+            format!("{section} is beside \"{sentence}\", which stands in {theirs}")
+        })
+    };
+    let faults = quotes.iter().filter_map(fault);
+    faults.map(|fault| format!("kit {kit}: {fault}")).collect()
 }
 
 fn of_notes(page: &Page) -> Vec<String> {
@@ -363,8 +437,10 @@ fn faults(page: &Page, there: &Repository) -> Vec<String> {
     faults.extend(twice(ids).iter().map(|id| format!("{id}: twice")));
     faults.extend(rows.iter().flat_map(|row| of_row(row, there, &page.notes)));
     faults.extend(of_notes(page));
+    faults.extend(of_sections(page, &there.sections));
+    let sections = sections(page);
     let kits = there.kits.iter();
-    faults.extend(kits.flat_map(|(kit, quotes)| of_kit(kit, quotes, rows)));
+    faults.extend(kits.flat_map(|(kit, quotes)| of_kit(kit, quotes, rows, &sections)));
     let uncited = |edit: &&String| !rows.iter().any(|row| cites(&row.edits, edit));
     let edits = there.edits.iter().filter(uncited);
     faults.extend(edits.map(|edit| format!("edit {edit}: no row cites it")));
@@ -400,16 +476,20 @@ fn every_public_function_ensures_something() {
 /// A small repository: one crate, two kits, two edits.
 fn small() -> Repository {
     let set = |names: &[&str]| names.iter().map(|name| name.to_string()).collect();
-    let kit = |name: &str, quote: &str| (name.to_string(), vec![quote.to_string()]);
+    let kit = |name: &str, section: &str, sentence: &str| {
+        let (section, sentence) = (section.into(), sentence.into());
+        (name.to_string(), vec![Quote { section, sentence }])
+    };
     Repository {
         definitions: set(&["c/Def"]),
         theorems: set(&["c/law"]),
         edits: set(&["c/one", "c/two"]),
         kits: [
-            kit("k-1", "first part"),
-            kit("k-2", "The whole | sentence."),
+            kit("k-1", "1", "first part"),
+            kit("k-2", "2.1", "The whole | sentence."),
         ]
         .into(),
+        sections: set(&["1", "2", "2.1"]),
     }
 }
 
@@ -417,6 +497,11 @@ const GOOD: &str = "| X1 | The first part of it. | `c/Def` | `c/law` | `k-1` | `
 | X2 | whole \\| sentence | `c/Def` | `c/law` | `k-*` | – (1) |
 
 (1) None.
+
+| Section | Sentences |
+|---|---|
+| 1 | X1 |
+| 2.1 | X1 to X2 |
 ";
 
 /// What is found where `old` is changed to `new` in the small page.
@@ -434,7 +519,7 @@ fn a_good_page_has_no_fault() {
 #[test]
 fn each_fault_of_a_row_is_found() {
     for (old, new, fault) in [
-        ("X2", "X1", "X1: twice"),
+        ("X2", "X1", "X1: twice; section 2.1: no rows 'X1 to X2'; kit k-2: 2.1 is beside \"The whole | sentence.\", which stands in 1"),
         ("The first part of it.", "", "X1: no sentence"),
         ("`c/Def`", "", "X1: no definition"),
         ("`c/Def`", "– (1)", "X1: no definition"),
@@ -448,7 +533,7 @@ fn each_fault_of_a_row_is_found() {
         ("– (1)", "", "X2: no edit and no dash; note (1): no dash has it"),
         ("– (1)", "`c/one`", "note (1): no dash has it"),
         ("(1) None.", "(1) None.\n(1) None.", "note (1): twice"),
-        ("| `c/law` ", "", "X1: 5 cells instead of 6; kit k-1: no row that cites it has \"first part\"; edit c/one: no row cites it; edit c/two: no row cites it"),
+        ("| `c/law` ", "", "X1: 5 cells instead of 6; section 1: no rows 'X1'; section 2.1: no rows 'X1 to X2'; X2: no section has it; kit k-1: no row that cites it has \"first part\"; edit c/one: no row cites it; edit c/two: no row cites it"),
     ] {
         assert_eq!(found(old, new), fault, "{old} to {new}");
     }
@@ -473,11 +558,52 @@ fn each_fault_of_a_kit_or_an_edit_is_found() {
         assert_eq!(found(old, new), fault, "{old} to {new}");
     }
     let mut there = small();
-    there
-        .kits
-        .insert("k-3".into(), quotes("# no quote\n# 01: \"\""));
+    let quotes = conformance::quotes("# 01 (SUPPLIER 1): \"first part\"\n# 01: \"first part\"");
+    there.kits.insert("k-3".into(), quotes.unwrap_or_default());
     let page = page(&format!("{HEAD}\n{GOOD}"));
-    assert_eq!(faults(&page, &there), ["kit k-3: it quotes nothing"]);
+    let told = "kit k-3: no quotes, or not each with its section";
+    assert_eq!(faults(&page, &there), [told]);
+}
+
+#[test]
+fn each_fault_of_a_section_is_found() {
+    for (old, new, fault) in [
+        (
+            "| 1 |",
+            "| 2 |",
+            "kit k-1: 1 is beside \"first part\", which stands in 2 or 2.1",
+        ),
+        (
+            "| 1 |",
+            "| – |",
+            "kit k-1: 1 is beside \"first part\", which stands in 2.1 or –",
+        ),
+        (
+            "| 1 | X1 |",
+            "| 1 | X1 |\n| 3 | X1 |",
+            "section 3: the paper has none",
+        ),
+        ("| 1 | X1 |", "| 1 | X1, X3 |", "section 1: no rows 'X3'"),
+        (
+            "| 1 | X1 |",
+            "| 1 |",
+            "1: no two cells; kit k-1: 1 is beside \"first part\", which stands in 2.1",
+        ),
+        (
+            "X1 to X2",
+            "X2 to X1",
+            "section 2.1: no rows 'X2 to X1'; X2: no section has it",
+        ),
+    ] {
+        assert_eq!(found(old, new), fault, "{old} to {new}");
+    }
+}
+
+#[test]
+fn sections_are_read_from_headings() {
+    let text = "# 0 title\n## 7. A\n### 7.12 B\n##8 no\n## no 9\n10. no\n## 11. C";
+    let expected = ["7", "7.12", "11"].map(String::from);
+    assert_eq!(headings(text), expected.into());
 }
 
 #[test]

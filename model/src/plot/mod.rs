@@ -5,6 +5,7 @@ mod lanes;
 mod svg;
 mod trace;
 
+use crate::conformance;
 use crate::kit::{self, Fault};
 use crate::listing;
 use crate::machine_data::number;
@@ -49,9 +50,9 @@ pub fn file(file: &str, bytes: &[u8], range: Range) -> Result<String, Fault> {
 
 /// The first comment of a kit's text that quotes nothing.
 fn plain_words(text: &str) -> &str {
-    let comments = text.lines().map_while(|line| line.strip_prefix('#'));
-    let mut plain = comments.filter(|comment| !comment.trim_start().starts_with("01:"));
-    plain.next().unwrap_or_default().trim()
+    let mut comments = text.lines().take_while(|line| line.starts_with('#'));
+    let plain = comments.find(|line| !conformance::is_quote(line));
+    plain.map_or("", |line| line[1..].trim())
 }
 
 /// The picture of a kit, with a title and some plain words.

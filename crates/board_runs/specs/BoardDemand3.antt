@@ -1,0 +1,23 @@
+-- Demand 3 of the library: of every list that monitor_read_list accepts into a channel's arrays, of every list of calls on them, and of all words that these
+-- calls may give. The claim is demand 3's own (crates/demand_3/specs/Demand3.antt).
+use Prim.Native.Nat.{ℕ}
+use mathlib.Core.Path.{_≡_}
+use mathlib.Core.List.{List}
+use lib.ListN.{length}
+use lib.IntN.{ℤ}
+use Rattle.list.specs.Reading.{readList}
+use Rattle.axis_monitor.specs.Ensures.{ReadListEnsures}
+use Rattle.demand_3.specs.Calls.{Words}
+use Rattle.demand_3.specs.History.{allCycles, cycleAt}
+use Rattle.demand_3.specs.Demand3.{Demanded, wordsIn}
+use Rattle.board_runs.specs.Calls.{BoardCall, ImageAnswers, callsOf}
+
+abbrev pub BoardDemand3 : Type 0
+BoardDemand3 =
+    (words : List ℕ) (values : List ℤ) (state : List ℕ) (values′ : List ℤ) (state′ : List ℕ) (at : ℕ) →
+    -- the list is accepted: the answer is 0
+    ReadListEnsures words values state 0 values′ state′ at →
+    (calls : List BoardCall) (given : List Words) → ImageAnswers values′ state′ calls given →
+    (length given ≡ length (allCycles (callsOf calls)))
+    × Demanded (readList words .list) (cycleAt (allCycles (callsOf calls))) (length (allCycles (callsOf calls))) (λ i. wordsIn given i .channel)
+    (λ i. wordsIn given i .device)

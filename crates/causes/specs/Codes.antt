@@ -1,7 +1,7 @@
 -- The list of cause codes: document 01, "A cycle's cause codes are a list of at most 13, each code once, in an open order".
 use Prim.Native.Nat.{ℕ, _+_, _≤_}
 use mathlib.Core.Path.{_≡_}
-use mathlib.Core.Bool.{cond, _&&_}
+use mathlib.Core.Bool.{Bool, cond, _&&_}
 use mathlib.Core.List.{List, [], _∷_}
 use lib.Dec.{ltb, eqb}
 use lib.ListN.{set, replicate, take, getD}
@@ -50,3 +50,7 @@ listTo c cs = cond (c .stands) (pushed (c .code) cs) cs
 -- the codes of a table's causes, one behind the other
 abbrev pub listed : List Cause → Causes → Causes
 listed = overRows listTo
+
+-- the same, where any cause stands
+abbrev pub listedIf : Bool → List Cause → Causes
+listedIf any rows = cond any (listed rows noCauses) noCauses

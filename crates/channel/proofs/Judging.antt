@@ -4,8 +4,9 @@ use mathlib.Core.Bool.{true, false}
 use native.Mathlib.Omega.{arith}
 use Rattle.machine_data.specs.declared.MachineData.{MachineData}
 use Rattle.inputs.specs.Usable.{usableOf}
-use Rattle.causes.specs.Codes.{Lists, noCauses, pushed, listTo, listed}
-use Rattle.causes.proofs.Codes.{lists}
+use Rattle.causes.specs.Causes.{summaryOf}
+use Rattle.causes.specs.Codes.{Lists, noCauses, pushed, listTo, listedIf}
+use Rattle.causes.proofs.Codes.{lists, lists-if}
 use Rattle.state.specs.declared.State.{State}
 use Rattle.state.specs.declared.Given.{Given}
 use Rattle.judge.specs.Causes.{usableRows, rowsOf, findingsOf}
@@ -15,12 +16,12 @@ use Rattle.channel.specs.Ensures.{AdvanceEnsures}
 
 module _ (m : MachineData) (s : State) (g : Given) where
   pub usable-cycle : usableOf m (g .reading) ≡ true → AdvanceEnsures m s g (advancedBy m s g (findingsOf m s g))
-  unfolding findingsOf rowsOf strongestIn clearsIn next word
+  unfolding findingsOf rowsOf strongestIn clearsIn next word summaryOf
   usable-cycle u = record { state = simp u; word-is = simp u }
 
-  pub usable-lists : usableOf m (g .reading) ≡ true → Lists (rowsOf m s g) (listed (findingsOf m s g .rows) noCauses)
-  unfolding findingsOf usableRows rowsOf
-  usable-lists u = simp u (lists (usableRows m s g) (omega arith))
+  pub usable-lists : usableOf m (g .reading) ≡ true → Lists (rowsOf m s g) (listedIf (findingsOf m s g .summary .any) (findingsOf m s g .rows))
+  unfolding findingsOf usableRows rowsOf summaryOf
+  usable-lists u = simp u (lists-if (usableRows m s g) (omega arith))
 
   pub unusable-cycle : usableOf m (g .reading) ≡ false → AdvanceEnsures m s g (advancedUnusable m s)
   unfolding next word

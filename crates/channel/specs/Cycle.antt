@@ -13,7 +13,7 @@ use Rattle.stop.specs.Stop.{stopNext, entersOf}
 use Rattle.comparison.specs.Comparison.{clearedFault}
 use Rattle.cams.specs.Cams.{camsNext}
 use Rattle.causes.specs.declared.Summary.{Summary}
-use Rattle.causes.specs.Causes.{strongestOf, freshOf, summaryOf}
+use Rattle.causes.specs.Causes.{strongestOf, freshOf}
 use Rattle.state.specs.declared.State.{State}
 use Rattle.state.specs.declared.Given.{Given}
 use Rattle.state.specs.State.{freshState}
@@ -83,10 +83,10 @@ nextBy m s g f =
             cams = camsNext (m .values) (g .reading .position) (s .kept .cams);
             choice = f .choice;
             differing = f .differing;
-            fault = clearedFault (clearsBy g (summaryOf (f .rows))) (f .fault);
+            fault = clearedFault (clearsBy g (f .summary)) (f .fault);
           };
       stop =
-          stopNext (m .values) (clearsBy g (summaryOf (f .rows))) (strongestOf (f .rows)) (slower (m .values) (f .moved) 33) (g .reading .position)
+          stopNext (m .values) (clearsBy g (f .summary)) (f .summary .strongest) (slower (m .values) (f .moved) 33) (g .reading .position)
           (s .stop);
       previous = At (g .reading .position);
     }

@@ -61,8 +61,7 @@ fn usable(values: &Values, count: usize, state: State, given: Given, findings: F
     let stop = state.stop;
     let choice = findings.choice;
     let fault = findings.fault;
-    let rows = findings.rows;
-    let summary = Summary::of(rows);
+    let summary = findings.summary;
     let strongest = summary.strongest;
     let clears = clears(given, summary);
     let slow = speed::slower(values, findings.moved, numbers::SHUTDOWN_SPEED);
@@ -165,12 +164,13 @@ pub fn cycle_on(values: &Values, count: usize, state: State, given: Given) -> Cy
     if inputs::usable(values, count, given.reading) {
         let findings = judge::judge(values, count, state, given);
         let rows = findings.rows;
+        let summary = findings.summary;
         let advanced = found(values, count, state, given, findings);
         let after = advanced.state;
         Cycled {
             state: after,
             word: advanced.word,
-            causes: Causes::of(rows),
+            causes: Causes::of(rows, summary.any),
         }
     } else {
         let idle = skipped(values, count, state);

@@ -17,7 +17,7 @@ use Rattle.stop.specs.declared.Stop.{Stop}
 use Rattle.comparison.specs.declared.Fault.{Fault}
 use Rattle.comparison.specs.Comparison.{positionDiffers, runOf, inputsDiffer, faultNext, expired}
 use Rattle.causes.specs.declared.Cause.{Cause}
-use Rattle.causes.specs.Causes.{cause}
+use Rattle.causes.specs.Causes.{cause, summaryOf}
 use Rattle.state.specs.declared.State.{State}
 use Rattle.state.specs.declared.Given.{Given}
 use Rattle.judge.specs.declared.Differences.{Differences}
@@ -95,4 +95,5 @@ findingsOf m s g =
       differing = differingIn s g;
       fault = faultIn m s g;
       rows = usableRows m s g;
+      summary = summaryOf (usableRows m s g);
     }

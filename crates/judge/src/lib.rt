@@ -4,6 +4,7 @@ ghost use Rattle.machine_data.specs.Data.{lent};
 ghost use Rattle.judge.specs.Causes.{anyDiffers, table, findingsOf};
 use causes::Cause;
 use causes::Rows;
+use causes::Summary;
 use comparison::Fault;
 use inputs::External;
 use inputs::Reading;
@@ -14,13 +15,14 @@ use state::Given;
 use state::State;
 use stop::Stop;
 
-// What steps 2 to 4 come to: |d|, what this cycle leaves of the choice, the run and F, and the causes.
+// What steps 2 to 4 come to: |d|, what this cycle leaves of the choice, the run and F, the causes, and what step 5 asks of them.
 pub struct Findings {
     pub moved: u32,
     pub choice: Choice,
     pub differing: u32,
     pub fault: Fault,
     pub rows: Rows,
+    pub summary: Summary,
 }
 
 // In what a channel and the report differ: causes 10, 11 and 12.
@@ -155,5 +157,6 @@ pub fn judge(values: &Values, count: usize, state: State, given: Given) -> Findi
         differing,
         fault: after,
         rows,
+        summary: Summary::of(rows),
     }
 }

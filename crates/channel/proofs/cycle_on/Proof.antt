@@ -4,7 +4,7 @@ use mathlib.Core.Bool.{true, false}
 use denote.Ref.{now}
 use Rattle.machine_data.specs.Data.{lent}
 use Rattle.inputs.specs.Usable.{usableOf}
-use Rattle.causes.specs.Codes.{Lists, noCauses, listed}
+use Rattle.causes.specs.Codes.{Lists, listedIf}
 use Rattle.judge.specs.declared.Findings.{Findings}
 use Rattle.judge.specs.Causes.{rowsOf}
 use Rattle.channel.specs.Word.{advancedBy}
@@ -33,13 +33,13 @@ unusable-requires : tie.Need-unusable-requires
 unusable-requires c κs = search needs
 
 returns : tie.Need-returns
-returns c = let a = c .before .before .before .before .before .before .before .args in let m = lent (now (a .values)) (a .count) in let s = a .state in
-    let u : usableOf m (a .given .reading) ≡ true = sym (c .before .before .before .before .before .before .usable .ensures) ∙ c .before .before .before .before .before .if1 .taken in
-    let e : AdvanceEnsures m s (a .given) (c .before .before .found .result) = subst (AdvanceEnsures m s (a .given)) (sym (c .before .before .found .ensures ∙ ap (advancedBy m s (a .given)) (c .before .before .before .before .judge .ensures))) (usable-cycle m s (a .given) u) in
+returns c = let a = c .before .before .before .before .before .before .before .before .args in let m = lent (now (a .values)) (a .count) in let s = a .state in
+    let u : usableOf m (a .given .reading) ≡ true = sym (c .before .before .before .before .before .before .before .usable .ensures) ∙ c .before .before .before .before .before .before .if1 .taken in
+    let e : AdvanceEnsures m s (a .given) (c .before .before .found .result) = subst (AdvanceEnsures m s (a .given)) (sym (c .before .before .found .ensures ∙ ap (advancedBy m s (a .given)) (c .before .before .before .before .before .judge .ensures))) (usable-cycle m s (a .given) u) in
     record {
       state = e .state;
       word-is = e .word-is;
-      causes = subst (Lists (rowsOf m s (a .given))) (sym (c .of .ensures ∙ ap (λ (f : Findings). listed (f .rows) noCauses) (c .before .before .before .before .judge .ensures))) (usable-lists m s (a .given) u);
+      causes = subst (Lists (rowsOf m s (a .given))) (sym (c .of .ensures ∙ ap (λ (f : Findings). listedIf (f .summary .any) (f .rows)) (c .before .before .before .before .before .judge .ensures))) (usable-lists m s (a .given) u);
     }
 
 returns-2 : tie.Need-returns-2

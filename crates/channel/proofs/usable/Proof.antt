@@ -6,9 +6,6 @@ use borrow.Author.Needs.{needs}
 use Rattle.channel.proofs.usable.Statement.{statement}
 use Rattle.channel.proofs.usable.Tie as tie
 
-of-requires : tie.Need-of-requires
-of-requires c κs = search needs
-
 clears-requires : tie.Need-clears-requires
 clears-requires c κs = search needs
 
@@ -28,14 +25,13 @@ cleared-requires : tie.Need-cleared-requires
 cleared-requires c κs = search needs
 
 returns : tie.Need-returns
-returns c = let fp : SFits w32 (c .before .before .before .before .before .before .before .before .before .before .before .before .before .args .given .reading .position) = search needs in
-    simp (toZ-ofZ fp) (simp (c .before .before .next2 .ensures, c .before .cleared .ensures, c .before .before .before .before .next .ensures, c .before .before .before .next-k .ensures, c .before .before .before .before .before .slower .ensures, c .before .before .before .before .before .before .clears .ensures, c .before .before .before .before .before .before .before .of .ensures))
+returns c = let fp : SFits w32 (c .before .before .before .before .before .before .before .before .before .before .before .before .args .given .reading .position) = search needs in
+    simp (toZ-ofZ fp) (simp (c .before .before .next2 .ensures, c .before .cleared .ensures, c .before .before .before .before .next .ensures, c .before .before .before .next-k .ensures, c .before .before .before .before .before .slower .ensures, c .before .before .before .before .before .before .clears .ensures))
 
 pub usable-spec : {M : Type 1} → statement M
 usable-spec =
     tie.close
     (tie.spec
-    of-requires
     clears-requires
     slower-requires
     next-requires

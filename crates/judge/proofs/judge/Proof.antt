@@ -2,7 +2,11 @@
 use mir.Syntax.{w32}
 use mir.Val.{SFits}
 use mir.Facts.{toZ-ofZ}
-use Rattle.judge.specs.Causes.{choiceIn, differingIn, differencesIn, faultIn, usableRows, findingsOf}
+use mathlib.Core.Path.{_≡_, ap, _∙_}
+use denote.Ref.{now}
+use Rattle.machine_data.specs.Data.{lent}
+use Rattle.causes.specs.Causes.{summaryOf}
+use Rattle.judge.specs.Causes.{movedIn, choiceIn, differingIn, differencesIn, faultIn, usableRows, findingsOf}
 use borrow.Author.Needs.{needs}
 use Rattle.judge.proofs.judge.Statement.{statement}
 use Rattle.judge.proofs.judge.Tie as tie
@@ -40,10 +44,24 @@ expired-requires c κs = search needs
 rows-requires : tie.Need-rows-requires
 rows-requires c κs = search needs
 
+of-requires : tie.Need-of-requires
+of-requires c κs = search needs
+
+position-fits : (c : tie.Start) → SFits w32 (c .args .given .reading .position)
+position-fits c = search needs
+
 returns : tie.Need-returns
 unfolding choiceIn differingIn differencesIn faultIn usableRows findingsOf
-returns c = let fp : SFits w32 (c .before .before .before .before .before .before .before .before .before .before .before .before .before .before .before .before .before .args .given .reading .position) = search needs in
-    simp (c .rows .ensures, c .before .expired .ensures, c .before .before .next2 .ensures, c .before .before .before .any .ensures, c .before .before .before .before .datum-differs .ensures, c .before .before .before .before .before .inputs-differ .ensures, c .before .before .before .before .before .before .position-differs .ensures, c .before .before .before .before .before .before .before .run .ensures, c .before .before .before .before .before .before .before .before .next .ensures, c .before .before .before .before .before .before .before .before .before .selected .ensures, c .before .before .before .before .before .before .before .before .before .before .moved-to .ensures, toZ-ofZ fp)
+returns c =
+    let a = c .before .before .before .before .before .before .before .before .before .before .before .before .before .before .before .before .before .before .args in
+    let m = lent (now (a .values)) (a .count) in
+    let fp = toZ-ofZ (position-fits (c .before .before .before .before .before .before .before .before .before .before .before .before .before .before .before .before .before .before)) in
+    let moved : c .before .before .before .before .before .before .before .before .before .before .before .moved-to .result ≡ movedIn (a .state) (a .given) = simp (c .before .before .before .before .before .before .before .before .before .before .before .moved-to .ensures, fp) in
+    let choice : c .before .before .before .before .before .before .before .before .before .next .result ≡ choiceIn m (a .state) (a .given) = simp (c .before .before .before .before .before .before .before .before .before .next .ensures, c .before .before .before .before .before .before .before .before .before .before .selected .ensures) in
+    let differing : c .before .before .before .before .before .before .before .before .run .result ≡ differingIn (a .state) (a .given) = simp (c .before .before .before .before .before .before .before .before .run .ensures) in
+    let fault : c .before .before .before .next2 .result ≡ faultIn m (a .state) (a .given) = simp (c .before .before .before .next2 .ensures, c .before .before .before .before .any .ensures, c .before .before .before .before .before .datum-differs .ensures, c .before .before .before .before .before .before .inputs-differ .ensures, c .before .before .before .before .before .before .before .position-differs .ensures, c .before .before .before .before .before .before .before .before .run .ensures) in
+    let rows : c .before .rows .result ≡ usableRows m (a .state) (a .given) = simp (c .before .rows .ensures, c .before .before .expired .ensures, c .before .before .before .next2 .ensures, c .before .before .before .before .any .ensures, c .before .before .before .before .before .datum-differs .ensures, c .before .before .before .before .before .before .inputs-differ .ensures, c .before .before .before .before .before .before .before .position-differs .ensures, c .before .before .before .before .before .before .before .before .run .ensures, c .before .before .before .before .before .before .before .before .before .next .ensures, c .before .before .before .before .before .before .before .before .before .before .selected .ensures, c .before .before .before .before .before .before .before .before .before .before .before .moved-to .ensures, fp) in
+    λ i. record { moved = moved i; choice = choice i; differing = differing i; fault = fault i; rows = rows i; summary = (c .of .ensures ∙ ap summaryOf rows) i }
 
 pub judge-spec : {M : Type 1} → statement M
 judge-spec =
@@ -60,4 +78,5 @@ judge-spec =
     next-requires-2
     expired-requires
     rows-requires
+    of-requires
     returns)

@@ -84,10 +84,9 @@ answerText (R.the-variants.Refused why part) words = refusedText why part
 abbrev pub HasCycles : R.KitRun → List ℕ → Type 0
 HasCycles answer words = (3 * cyclesOf answer ≤ length words) × (length words ≤ 7020)
 
--- room for a kit's words, and for the words of as many cycles as its log can have
+-- a kit in whole words, with room for the words of its run, where there is room for its own
 pub record Rooms (kit words ran : List ℕ) : Type 0 where
   pub whole : length kit % 4 ≡ 0
   pub short : length kit ≤ 65_536
-  pub for-words : length kit ≤ 4 * length words
-  pub for-cycles : 3 * (length kit / 28) ≤ length ran
+  pub for-cycles : length kit ≤ 4 * length words → 3 * (length kit / 28) ≤ length ran
   pub few-cycles : length ran ≤ 7020

@@ -46,7 +46,8 @@ fn put_answer(out: &mut [u8], answer: KitRun, words: &[u32]) -> usize
     }
 }
 
-// A kit's listing, with room lent for its words and for those of its run.
+// A kit's listing, with room lent for its words and for those of its run. Of more room than its words take, the front; where
+// there is too little, in the largest there is.
 fn list_in(kit: &[u8], room: &mut [u32], ran: &mut [u32], out: &mut [u8]) -> usize
     requires { ⌜ Rooms (now kit) (now room) (now ran) ⌝ }
     ensures { λ r. ⌜ r ≡ length (ofWords (wordsOf (now (kit .entry)))) ⌝ }
@@ -54,24 +55,15 @@ fn list_in(kit: &[u8], room: &mut [u32], ran: &mut [u32], out: &mut [u8]) -> usi
     ensures { λ r. ⌜ r ≤ 74880 ⌝ }
 {
     let many = kit.len() / 4;
-    let words = &mut room[..many];
-    read_words(kit, words);
-    let answer = kit_run::run_kit(words, ran);
+    if room.len() < many {
+        return list_long(kit, out);
+    }
+    if many < room.len() {
+        return list_in(kit, &mut room[..many], ran, out);
+    }
+    read_words(kit, room);
+    let answer = kit_run::run_kit(room, ran);
     put_answer(out, answer, ran)
-}
-
-// A kit of at most 2,560 words, as most are, whose log has at most 365 cycles: clearing room for the largest takes longer
-// than listing one.
-fn list_short(kit: &[u8], out: &mut [u8]) -> usize
-    requires { ⌜ length (now kit) ≤ 10240 ⌝ }
-    requires { ⌜ length (now kit) % 4 ≡ 0 ⌝ }
-    ensures { λ r. ⌜ r ≡ length (ofWords (wordsOf (now (kit .entry)))) ⌝ }
-    ensures { λ _. ⌜ now (out .exit) ≡ written 0 (ofWords (wordsOf (now (kit .entry)))) (now (out .entry)) ⌝ }
-    ensures { λ r. ⌜ r ≤ 74880 ⌝ }
-{
-    let mut words = [0u32; 2560];
-    let mut ran = [0u32; 1095];
-    list_in(kit, &mut words, &mut ran, out)
 }
 
 // The largest kit has 16,384 words, and its log 2,340 cycles.
@@ -88,7 +80,8 @@ fn list_long(kit: &[u8], out: &mut [u8]) -> usize
 }
 
 // The length of the kit's text; where the buffer has room the text stands at its front. No text is longer than 2,340
-// lines of 32 bytes.
+// lines of 32 bytes. The room is that of a kit of 2,560 words, as most are, whose log has at most 365 cycles: clearing room
+// for the largest takes longer than listing one, and no such kit needs the stack for it.
 pub fn list_kit(kit: &[u8], out: &mut [u8]) -> usize
     ensures { λ r. ⌜ r ≡ length (listed (now (kit .entry))) ⌝ }
     ensures { λ _. ⌜ now (out .exit) ≡ written 0 (listed (now (kit .entry))) (now (out .entry)) ⌝ }
@@ -97,11 +90,9 @@ pub fn list_kit(kit: &[u8], out: &mut [u8]) -> usize
     if !whole_words(kit.len()) {
         return put_refused(out, Refusal::WrongLog(0), Part::Log);
     }
-    if kit.len() <= 10240 {
-        list_short(kit, out)
-    } else {
-        list_long(kit, out)
-    }
+    let mut words = [0u32; 2560];
+    let mut ran = [0u32; 1095];
+    list_in(kit, &mut words, &mut ran, out)
 }
 
 fn tell(told: &mut [u64; 3], number: u32, place: usize, letter: u8)

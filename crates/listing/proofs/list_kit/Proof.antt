@@ -1,5 +1,6 @@
 -- `listing::list_kit` meets its contract. Assumes nothing.
 use borrow.Author.Tests.{not-true, not-false}
+use native.Mathlib.Omega.{arith}
 use denote.Ref.{now}
 use Rattle.run_text.proofs.Texts.{same-text}
 use Rattle.listing.proofs.Texts.{whole-size, listed-whole, listed-odd}
@@ -19,23 +20,21 @@ same-length c = search needs
 returns : tie.Need-returns
 returns c = let a = c .before .before .before .before .before .before .before .before .args in same-text (now (a .out)) (listed-odd (now (a .kit)) (c .before .before .before .before .before .whole-words .ensures) (not-true _ (c .before .before .before .before .if1 .taken))) (c .before .before .put-refused .ensures)
 
-list-short-requires : tie.Need-list-short-requires
-list-short-requires c κs = (c .before .if2 .taken, whole-size (now (c .before .before .before .before .before .before .args .kit)) (c .before .before .before .whole-words .ensures) (not-false _ (c .before .before .if1 .left)) .1)
+slice-aggregate-list-in : tie.Need-slice-aggregate-list-in
+slice-aggregate-list-in c = search needs
 
-list-long-requires : tie.Need-list-long-requires
-list-long-requires c κs = whole-size (now (c .before .before .before .before .before .before .args .kit)) (c .before .before .before .whole-words .ensures) (not-false _ (c .before .before .if1 .left))
+slice-aggregate-list-in-2 : tie.Need-slice-aggregate-list-in-2
+slice-aggregate-list-in-2 c = search needs
+
+list-in-requires : tie.Need-list-in-requires
+list-in-requires c κs = let size = whole-size (now (c .before .before .before .before .before .before .before .args .kit)) (c .before .before .before .before .whole-words .ensures) (not-false _ (c .before .before .before .if1 .left)) in
+    record { whole = size .1; short = size .0; for-cycles = λ h. omega (arith, h); few-cycles = omega arith }
 
 same-length-2 : tie.Need-same-length-2
 same-length-2 c = search needs
 
 returns-2 : tie.Need-returns-2
-returns-2 c = let a = c .before .before .before .before .before .before .before .before .before .args in same-text (now (a .out)) (listed-whole (now (a .kit)) (c .before .before .before .before .before .before .whole-words .ensures) (not-false _ (c .before .before .before .before .before .if1 .left))) (c .before .before .list-short .ensures)
-
-same-length-3 : tie.Need-same-length-3
-same-length-3 c = search needs
-
-returns-3 : tie.Need-returns-3
-returns-3 c = let a = c .before .before .before .before .before .before .before .before .before .args in same-text (now (a .out)) (listed-whole (now (a .kit)) (c .before .before .before .before .before .before .whole-words .ensures) (not-false _ (c .before .before .before .before .before .if1 .left))) (c .before .before .list-long .ensures)
+returns-2 c = let a = c .before .before .before .before .before .before .before .before .before .before .before .before .args in same-text (now (a .out)) (listed-whole (now (a .kit)) (c .before .before .before .before .before .before .before .before .before .whole-words .ensures) (not-false _ (c .before .before .before .before .before .before .before .before .if1 .left))) (c .before .before .before .before .list-in .ensures)
 
 pub list-kit-spec : {M : Type 1} → statement M
 list-kit-spec =
@@ -45,9 +44,8 @@ list-kit-spec =
     put-refused-requires
     same-length
     returns
-    list-short-requires
-    list-long-requires
+    slice-aggregate-list-in
+    slice-aggregate-list-in-2
+    list-in-requires
     same-length-2
-    returns-2
-    same-length-3
-    returns-3)
+    returns-2)

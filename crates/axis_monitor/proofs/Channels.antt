@@ -1,11 +1,9 @@
--- A channel's arrays after a call: the state written into them is read back, with the count that they had. Assumes nothing.
+-- A report that crosses comes back, and a cycle leaves the arrays of the channel after it. Assumes nothing.
 use mathlib.Core.Path.{_≡_, _∙_, subst}
 use mathlib.Core.List.{List}
-use Prim.Native.Nat.{ℕ, _%_, _<_}
-use native.Mathlib.Omega.{arith}
+use Prim.Native.Nat.{ℕ, _<_}
 use lib.IntN.{ℤ}
 use Rattle.machine_data.specs.Data.{lent}
-use Rattle.state.specs.declared.State.{State}
 use Rattle.state.specs.declared.Given.{Given}
 use Rattle.channel.specs.declared.Cycled.{Cycled}
 use Rattle.channel.specs.Ensures.{CycledEnsures}
@@ -13,16 +11,10 @@ use Rattle.image.specs.Image.{countFrom, stateFrom, stateWords, channelFrom}
 use Rattle.image.specs.Ensures.{WordsEnsures}
 use Rattle.report.specs.declared.Report.{Report}
 use Rattle.image.specs.Words.{Signed}
+use Rattle.image.proofs.Channels.{written}
 use Rattle.image.proofs.Twos.{signed-back}
 use Rattle.axis_monitor.specs.Crossing.{reportWords, reportFrom}
 use Rattle.axis_monitor.specs.Ensures.{CycleEnsures}
-
-whole-count : (n : ℕ) → n < 4294967296 → n % 4294967296 ≡ n
-whole-count n h = omega arith
-
--- a state written behind a list's count
-pub written : (values : List ℤ) (count : ℕ) (s : State) {w : List ℕ} → count < 4294967296 → WordsEnsures count s w → channelFrom values w ≡ record { list = lent values count; state = s }
-written values count s small e = λ i. record { list = lent values ((e .count-back ∙ whole-count count small) i); state = e .state-back i }
 
 -- a report that crosses comes back
 pub report-back : (r : Report) → Signed (r .position) → Signed (r .datum) → reportFrom (reportWords r) ≡ r

@@ -1,3 +1,2 @@
 pub mod Channels
 pub mod Lists
-pub mod Logs

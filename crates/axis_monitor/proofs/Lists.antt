@@ -22,7 +22,7 @@ use Rattle.image.specs.Image.{stateWords, channelFrom}
 use Rattle.image.specs.Ensures.{WordsEnsures}
 use Rattle.axis_monitor.specs.Crossing.{listNumber, listPlace, listLeft}
 use Rattle.axis_monitor.specs.Ensures.{ReadListEnsures}
-use Rattle.axis_monitor.proofs.Channels.{written}
+use Rattle.image.proofs.Channels.{written}
 
 few-data : (words : List ℕ) (used : ℕ) → readList words .answer ≡ Accepted used → readList words .list .count < 4294967296
 few-data words used e = go (accepted words (readList words .list) used .0 (whole-answer words used e) .1)

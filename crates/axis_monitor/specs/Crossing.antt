@@ -7,7 +7,6 @@ use Rattle.report.specs.declared.Report.{Report}
 use Rattle.state.specs.declared.Given.{Given}
 use Rattle.refusal.specs.Refusal.{refusalNumber, refusalPlace}
 use Rattle.list.specs.declared.ListAnswer as L
-use Rattle.log.specs.declared.LogAnswer as G
 use Rattle.image.specs.Words.{signedOf, unsignedOf, yesFrom}
 
 -- the number of this interface
@@ -44,15 +43,3 @@ listPlace (L.the-variants.Refused why) = refusalPlace why
 abbrev pub listLeft : {A : Type 0} → L.ListAnswer → A → A → A
 listLeft (L.the-variants.Accepted used) before after = after
 listLeft (L.the-variants.Refused why) before after = before
-
-abbrev pub logNumber : G.LogAnswer → ℕ
-logNumber (G.the-variants.Accepted cycles) = 0
-logNumber (G.the-variants.Refused why) = refusalNumber why
-
-abbrev pub logPlace : G.LogAnswer → ℕ
-logPlace (G.the-variants.Accepted cycles) = cycles
-logPlace (G.the-variants.Refused why) = refusalPlace why
-
-abbrev pub logLeft : {A : Type 0} → G.LogAnswer → A → A → A
-logLeft (G.the-variants.Accepted cycles) before after = after
-logLeft (G.the-variants.Refused why) before after = before

@@ -14,9 +14,8 @@ use Rattle.state.specs.declared.Given.{Given}
 use Rattle.judge.specs.Causes.{rowsOf}
 use Rattle.channel.specs.Cycle.{freshChannel, withState, next}
 use Rattle.channel.specs.Word.{word}
-use Rattle.log.specs.Run.{Ran, ranOf}
 use Rattle.image.specs.Image.{countFrom, listFrom, stateFrom, stateWords, channelFrom}
-use Rattle.axis_monitor.specs.Crossing.{reportWords, reportFrom, listNumber, listPlace, listLeft, logNumber, logPlace, logLeft}
+use Rattle.axis_monitor.specs.Crossing.{reportWords, reportFrom, listNumber, listPlace, listLeft}
 
 -- a list read into a channel's arrays
 pub record ReadListEnsures (words : List ℕ) (values : List ℤ) (state : List ℕ) (number : ℕ) (values′ : List ℤ) (state′ : List ℕ) (at′ : ℕ) : Type 0 where
@@ -42,16 +41,3 @@ pub record CycleEnsures (values : List ℤ) (state : List ℕ) (g : Given) (w : 
   pub channel : channelFrom values state′ ≡ withState (channelFrom values state) (next (listFrom values state) (stateFrom state) g)
   pub many : ℕ
   pub causes : Lists (rowsOf (listFrom values state) (stateFrom state) g) (record { codes = codes′; count = many })
-
--- the run of a log over the two channels that the arrays stand for
-abbrev pub ranFrom : List ℤ → List ℕ → List ℤ → List ℕ → List ℕ → List ℕ → Ran
-ranFrom values-a state-a values-b state-b words out = ranOf (channelFrom values-a state-a) (channelFrom values-b state-b) words out
-
-pub record RunLogEnsures (values-a : List ℤ) (state-a : List ℕ) (values-b : List ℤ) (state-b words out : List ℕ) (number : ℕ) (state-a′ state-b′ out′ : List ℕ) (at′ : ℕ) : Type 0 where
-  pub number-is : number ≡ logNumber (ranFrom values-a state-a values-b state-b words out .answer)
-  pub place : at′ ≡ logPlace (ranFrom values-a state-a values-b state-b words out .answer)
-  pub a-left : state-a′ ≡ logLeft (ranFrom values-a state-a values-b state-b words out .answer) state-a (stateWords (countFrom state-a) (ranFrom values-a state-a values-b state-b words out .a .state))
-  pub b-left : state-b′ ≡ logLeft (ranFrom values-a state-a values-b state-b words out .answer) state-b (stateWords (countFrom state-b) (ranFrom values-a state-a values-b state-b words out .b .state))
-  pub channel-a : channelFrom values-a state-a′ ≡ ranFrom values-a state-a values-b state-b words out .a
-  pub channel-b : channelFrom values-b state-b′ ≡ ranFrom values-a state-a values-b state-b words out .b
-  pub output : out′ ≡ ranFrom values-a state-a values-b state-b words out .out

@@ -14,8 +14,8 @@ use Rattle.log.specs.declared.LogAnswer.the-variants.{Accepted, Refused}
 use Rattle.log.specs.Ensures.{LogEnsures}
 use Rattle.single.specs.declared.SingleOutcome.{SingleOutcome}
 use Rattle.image.specs.Image.{channelFrom}
-use Rattle.axis_monitor.specs.Crossing.{logNumber, logPlace}
-use Rattle.axis_monitor.specs.Ensures.{ranFrom, RunLogEnsures}
+use Rattle.axis_logs.specs.Crossing.{logNumber, logPlace}
+use Rattle.axis_logs.specs.Ensures.{ranFrom, RunLogEnsures}
 use Rattle.demand_3.specs.Calls as D
 use Rattle.demand_3.specs.Calls.{Side, as-a, as-b, own, Words, wordsFrom, answeredWords, Answered, Answers}
 use Rattle.board_runs.specs.Calls.{BoardCall, givenWords, ImageAnswered, cycled, ran, ImageAnswers, none, then, callOf, callsOf}

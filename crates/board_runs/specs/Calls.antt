@@ -8,7 +8,8 @@ use lib.IntN.{ℤ}
 use Rattle.device.specs.Device.{deviceOf}
 use Rattle.image.specs.Image.{channelFrom}
 use Rattle.axis_monitor.specs.Crossing.{givenFrom}
-use Rattle.axis_monitor.specs.Ensures.{CycleEnsures, RunLogEnsures}
+use Rattle.axis_monitor.specs.Ensures.{CycleEnsures}
+use Rattle.axis_logs.specs.Ensures.{RunLogEnsures}
 use Rattle.demand_3.specs.Calls.{Side, own, Call, single, logged, Words, wordsFrom}
 
 -- "a single cycle, then the device word of its channel word and the other's": position, input word, acknowledgement, the report's words, the other channel's

@@ -1,2 +1,3 @@
 pub mod Twos
 pub mod Back
+pub mod Channels

@@ -23,9 +23,9 @@ use Rattle.log.specs.Run.{Ran, refusing, running, byRecords, ranOf}
 use Rattle.log.specs.Ensures.{LogEnsures}
 use Rattle.image.specs.Image.{countFrom, stateWords, channelFrom}
 use Rattle.image.specs.Ensures.{WordsEnsures}
-use Rattle.axis_monitor.specs.Crossing.{logNumber, logPlace, logLeft}
-use Rattle.axis_monitor.specs.Ensures.{ranFrom, RunLogEnsures}
-use Rattle.axis_monitor.proofs.Channels.{written}
+use Rattle.axis_logs.specs.Crossing.{logNumber, logPlace, logLeft}
+use Rattle.axis_logs.specs.Ensures.{ranFrom, RunLogEnsures}
+use Rattle.image.proofs.Channels.{written}
 
 -- what a log leaves of its channels
 pub record Leaves (a b : Channel) (out : List ℕ) (r : Ran) : Type 0 where

@@ -1,9 +1,9 @@
--- `axis_monitor::monitor_run_log` meets its contract. Assumes nothing.
+-- `axis_logs::monitor_run_log` meets its contract. Assumes nothing.
 use denote.Ref.{now}
-use Rattle.axis_monitor.proofs.Logs.{ran, refused}
+use Rattle.axis_logs.proofs.Logs.{ran, refused}
 use borrow.Author.Needs.{needs}
-use Rattle.axis_monitor.proofs.monitor_run_log.Statement.{statement}
-use Rattle.axis_monitor.proofs.monitor_run_log.Tie as tie
+use Rattle.axis_logs.proofs.monitor_run_log.Statement.{statement}
+use Rattle.axis_logs.proofs.monitor_run_log.Tie as tie
 
 channel-from-requires : tie.Need-channel-from-requires
 channel-from-requires c κs = search needs

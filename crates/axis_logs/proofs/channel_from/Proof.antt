@@ -1,7 +1,7 @@
--- `axis_monitor::channel_from` meets its contract. Assumes nothing.
+-- `axis_logs::channel_from` meets its contract. Assumes nothing.
 use borrow.Author.Needs.{needs}
-use Rattle.axis_monitor.proofs.channel_from.Statement.{statement}
-use Rattle.axis_monitor.proofs.channel_from.Tie as tie
+use Rattle.axis_logs.proofs.channel_from.Statement.{statement}
+use Rattle.axis_logs.proofs.channel_from.Tie as tie
 
 count-of-requires : tie.Need-count-of-requires
 count-of-requires c κs = search needs

@@ -1,4 +1,5 @@
-/* The two-channel axis monitor: the functions of libaxis_monitor.a. C11 or C++11. docs/INTEGRATION.md says how to use them. */
+/* The two-channel axis monitor: the functions of libaxis_monitor.a, and those of libaxis_logs.a below them. C11 or C++11.
+   docs/INTEGRATION.md says how to use them. */
 #ifndef AXIS_MONITOR_H
 #define AXIS_MONITOR_H
 
@@ -150,6 +151,8 @@ uint32_t monitor_cycle(const int32_t data[MONITOR_DATA], uint32_t state[MONITOR_
 
 /* The device word of two channel words. */
 uint32_t monitor_device_word(uint32_t a, uint32_t b);
+
+/* ---- libaxis_logs.a: recorded logs and kits ---- */
 
 /* Runs a log: MONITOR_ACCEPTED, 3 words a cycle at the output's front and in *at the cycles; or 6 or 7 and in *at the place or the
    words wanted, channels and output as they were. */

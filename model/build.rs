@@ -3,7 +3,13 @@
 use std::env;
 use std::path::Path;
 
-/// Names the folder that holds the archive.
+/// The archives, and the variables that tell the tests where they are.
+const ARCHIVES: [(&str, &str); 2] = [
+    ("axis_monitor", "MONITOR_ARCHIVE"),
+    ("axis_logs", "MONITOR_LOGS_ARCHIVE"),
+];
+
+/// Names the folder that holds the archives.
 const FOLDER: &str = "MONITOR_ARCHIVE_DIR";
 
 fn main() {
@@ -16,9 +22,11 @@ fn main() {
     // A folder that is not absolute counts from this one, whatever cargo is run from.
     let package = env::var("CARGO_MANIFEST_DIR").unwrap_or_default();
     let folder = Path::new(&package).join(folder);
-    let archive = folder.join("libaxis_monitor.a");
-    println!("cargo:rerun-if-changed={}", archive.display());
-    println!("cargo:rustc-env=MONITOR_ARCHIVE={}", archive.display());
     println!("cargo:rustc-link-search=native={}", folder.display());
-    println!("cargo:rustc-link-lib=static=axis_monitor");
+    for (name, variable) in ARCHIVES {
+        let archive = folder.join(format!("lib{name}.a"));
+        println!("cargo:rerun-if-changed={}", archive.display());
+        println!("cargo:rustc-env={variable}={}", archive.display());
+        println!("cargo:rustc-link-lib=static={name}");
+    }
 }

@@ -92,8 +92,21 @@ fn the_header_is_c_and_cpp() {
 }
 
 #[test]
-fn the_archive_has_its_names_and_asks_for_two() {
-    let text = run("nm", &["--extern-only", env!("MONITOR_ARCHIVE")]);
+fn an_archive_has_its_names_and_asks_for_no_others_but_memory() {
+    let cycle = [
+        "monitor_cycle",
+        "monitor_device_word",
+        "monitor_interface",
+        "monitor_read_list",
+        "monitor_report",
+    ];
+    let logs = ["monitor_list_kit", "monitor_run_kit", "monitor_run_log"];
+    has_names(env!("MONITOR_ARCHIVE"), &cycle);
+    has_names(env!("MONITOR_LOGS_ARCHIVE"), &logs);
+}
+
+fn has_names(archive: &str, exported: &[&str]) {
+    let text = run("nm", &["--extern-only", archive]);
     let names = |of: &str| -> Vec<&str> {
         let lines = text.lines().map(|line| line.split_whitespace());
         let pairs = lines.filter_map(|mut line| Some((line.next_back()?, line.next_back()?)));
@@ -104,16 +117,6 @@ fn the_archive_has_its_names_and_asks_for_two() {
         names.sort_unstable();
         names
     };
-    let exported = [
-        "monitor_cycle",
-        "monitor_device_word",
-        "monitor_interface",
-        "monitor_list_kit",
-        "monitor_read_list",
-        "monitor_report",
-        "monitor_run_kit",
-        "monitor_run_log",
-    ];
     assert_eq!(names("T"), exported, "{text}");
     let wanted = names("U");
     let known = |name: &&str| ["memcpy", "memset"].contains(name);
@@ -123,13 +126,15 @@ fn the_archive_has_its_names_and_asks_for_two() {
 }
 
 #[test]
-fn the_archive_has_no_variable() {
-    let text = run("nm", &[env!("MONITOR_ARCHIVE")]);
-    let kinds = text
-        .lines()
-        .filter_map(|line| line.split_whitespace().nth_back(1));
-    let variable = |kind: &str| "bBdDsSgGcC".contains(kind);
-    assert_eq!(kinds.filter(|kind| variable(kind)).count(), 0, "{text}");
+fn an_archive_has_no_variable() {
+    for archive in [env!("MONITOR_ARCHIVE"), env!("MONITOR_LOGS_ARCHIVE")] {
+        let text = run("nm", &[archive]);
+        let kinds = text
+            .lines()
+            .filter_map(|line| line.split_whitespace().nth_back(1));
+        let variable = |kind: &str| "bBdDsSgGcC".contains(kind);
+        assert_eq!(kinds.filter(|kind| variable(kind)).count(), 0, "{text}");
+    }
 }
 
 #[test]

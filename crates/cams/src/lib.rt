@@ -5,16 +5,18 @@ use inputs::Reading;
 use machine_data::Values;
 use machine_data::numbers;
 
-// The signal of cam n, in data order: 1 above the edge and its tolerance, 0 below the edge, else as before.
+// The signal of cam n, in data order: 1 above the edge and its tolerance, 0 below the edge, else as before. The edge is taken
+// as it stands, which saves a cycle the look at eight ranges.
 fn cam(values: &Values, reading: Reading, n: usize, before: bool) -> bool
     ensures { λ r. ⌜ r ≡ camOf (now (values .entry)) (reading .position) n before ⌝ }
 {
-    let edge = machine_data::cam_edge(values, n);
-    let tolerance = machine_data::datum(values, numbers::CAM_TOLERANCE);
-    if edge + tolerance < reading.position {
+    let edge = machine_data::entry(values, numbers::CAM + n % 8) as i64;
+    let tolerance = machine_data::datum(values, numbers::CAM_TOLERANCE) as i64;
+    let position = reading.position as i64;
+    if edge + tolerance < position {
         return true;
     }
-    if reading.position < edge {
+    if position < edge {
         return false;
     }
     before

@@ -7,7 +7,7 @@ use native.Mathlib.Nat.{zero-add, le-trans, le-of-suc-le-suc, not-suc-le-zero}
 use native.Mathlib.Omega.{arith}
 use borrow.Author.Tests.{ltb-true}
 use lib.IntN.{ℤ, pos, negsuc}
-use lib.Signed.{leZ, mag}
+use lib.Signed.{leZ}
 use lib.Dec.{T, ltb, leb, leb→le, lit<}
 use lib.Ieee.Fits.{and-l, and-r}
 use Rattle.machine_data.specs.Table.{dataCount, lowOf, highOf, inRange}
@@ -28,22 +28,6 @@ size-mono : (a b : ℤ) → T (leZ a b) → size a ≤ size b
 size-mono (pos m) (pos n) t = leb→le m n t
 size-mono (pos m) (negsuc n) t = absurd t
 size-mono (negsuc m) b t = omega arith
-
--- how far below 0 a number lies, less one, as `mag` counts
-deep : ℤ → ℕ
-deep (pos n) = 0
-deep (negsuc n) = n
-
-deep-mono : (a b : ℤ) → T (leZ a b) → deep b ≤ deep a
-unfolding deep
-deep-mono a (pos n) t = omega arith
-deep-mono (pos m) (negsuc n) t = absurd t
-deep-mono (negsuc m) (negsuc n) t = leb→le n m t
-
-on-either-side : (z : ℤ) {most : ℕ} → size z ≤ most → deep z ≤ most → mag z ≤ most
-unfolding deep
-on-either-side (pos n) above below = above
-on-either-side (negsuc n) above below = below
 
 -- the range of datum k lies between the two
 abbrev pub ranged : ℕ → ℕ → ℕ → Bool
@@ -77,19 +61,4 @@ module _ (d : List ℤ) where
     where
       go : (t : Bool) → ltb k dataCount ≡ t → numberOf d k ≤ 100_000_000
       go true e = rw zero-add at (between 0 dataCount 0 100_000_000 k tt (ltb-true k dataCount e) (omega arith) .1)
-      go false e = rw e (omega arith)
-
-  -- every datum, on either side of zero
-  pub mag-most : (k : ℕ) → mag (datumOf d k) ≤ 100_000_000
-  unfolding datumOf inRange deep numberOf
-  mag-most k = go (ltb k dataCount) refl
-    where
-      go : (t : Bool) → ltb k dataCount ≡ t → mag (datumOf d k) ≤ 100_000_000
-      go true e =
-          let z = datumOf d k in
-          let h = ltb-true k dataCount e in
-          let s = in-range d k h in
-          let low = deep-mono (lowOf k) z (and-r (ltb k dataCount) (leZ (lowOf k) z) (and-l (ltb k dataCount && leZ (lowOf k) z) (leZ z (highOf k)) s)) in
-          let least = leb→le (deep (lowOf k)) 100_000_000 (each-at (λ i. leb (deep (lowOf i)) 100_000_000) dataCount k tt h) in
-          on-either-side z (number-most k) (le-trans low least)
       go false e = rw e (omega arith)

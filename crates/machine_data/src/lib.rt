@@ -185,13 +185,6 @@ pub fn sg_stop(values: &Values, n: u8) -> u64
     size(read(values, numbers::SG_STOP + ((n % 4) as usize), 1, 5))
 }
 
-// The edge of cam n, in data order.
-pub fn cam_edge(values: &Values, n: usize) -> i32
-    ensures { λ r. ⌜ r ≡ datumOf (now (values .entry)) (16 + n % 8) ⌝ }
-{
-    read(values, numbers::CAM + n % 8, -100000000, 100000000)
-}
-
 // The percent of override n.
 pub fn percent(values: &Values, n: u8) -> u64
     ensures { λ r. ⌜ r ≡ numberOf (now (values .entry)) (35 + n % 16) ⌝ }

@@ -12,7 +12,7 @@ use std::io;
 use std::path::Path;
 
 /// What may stand in the folder beside the kits.
-const PAGE: &str = "README.md";
+pub(crate) const PAGE: &str = "README.md";
 
 /// A kit of the folder.
 #[derive(Clone, Debug, PartialEq, Eq)]
@@ -158,7 +158,7 @@ fn read_kit(folder: &Path, file: &str) -> Result<Kit, String> {
 }
 
 /// A kit's name from its file's.
-fn name_of(file: &str) -> Result<&str, String> {
+pub(crate) fn name_of(file: &str) -> Result<&str, String> {
     let allowed = |c: char| c.is_ascii_lowercase() || c.is_ascii_digit() || c == '-';
     match file.strip_suffix(".txt") {
         None => Err("the file of a kit's text ends in .txt".into()),
@@ -168,7 +168,7 @@ fn name_of(file: &str) -> Result<&str, String> {
 }
 
 /// The names of a folder's files.
-fn files(folder: &Path) -> Result<Vec<String>, String> {
+pub(crate) fn files(folder: &Path) -> Result<Vec<String>, String> {
     let names = |folder: &Path| -> io::Result<Vec<String>> {
         fs::read_dir(folder)?
             .map(|entry| Ok(entry?.file_name().to_string_lossy().into_owned()))

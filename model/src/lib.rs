@@ -42,6 +42,9 @@ pub mod plot;
 // Kits that were chosen.
 pub mod conformance;
 
+// Calls that were chosen, for what no kit shows.
+pub mod script;
+
 // Kits by chance.
 pub mod random;
 

@@ -1,7 +1,7 @@
 //! `kit`: from the text form of a kit to its bytes, back again, and to the model's listing.
 
 use model::plot::{self, Range};
-use model::{conformance, kit, listing, Deviation};
+use model::{conformance, kit, listing, script, Deviation};
 use std::io::{Read, Write};
 use std::path::Path;
 use std::process::ExitCode;
@@ -15,6 +15,8 @@ kit plot FILE [FROM TO]
 kit power KITS      for each deviation the kits of a folder that tell it
 kit conformance KITS CRATE
                     a folder's kits to data/, args and stdout of a crate's folder
+kit script FILE.txt a script of calls, run by the model
+kit scripts SCRIPTS a folder's scripts, run by the model, in the plain form for a board
 FILE may be -, for standard input.
 ";
 
@@ -32,6 +34,8 @@ fn main() -> ExitCode {
         ["plot", file, from, to] => range(from, to).and_then(|range| plot(file, range)),
         ["power", kits] => power(kits),
         ["conformance", kits, folder] => make_conformance(kits, folder),
+        ["script", file] => run_script(file),
+        ["scripts", folder] => plain_scripts(folder),
         _ => Err(USAGE.into()),
     };
     match answer.and_then(|bytes| write(&bytes)) {
@@ -83,6 +87,19 @@ fn make_conformance(kits: &str, folder: &str) -> Result<Vec<u8>, String> {
     let kits = conformance::read(Path::new(kits))?;
     conformance::write(&kits, Path::new(folder))?;
     Ok(format!("{} kits\n", kits.len()).into_bytes())
+}
+
+/// Runs a script by the model: how many calls it makes.
+fn run_script(file: &str) -> Result<Vec<u8>, String> {
+    let script = script::file(Path::new(file))?;
+    let calls = script::run::<script::Model>(&script).map_err(|told| told.to_string())?;
+    Ok(format!("{} calls\n", calls.len()).into_bytes())
+}
+
+fn plain_scripts(folder: &str) -> Result<Vec<u8>, String> {
+    let scripts = script::folder(Path::new(folder))?;
+    let plain = script::plain(&scripts).map_err(|told| told.to_string())?;
+    Ok(plain.into_bytes())
 }
 
 fn power(kits: &str) -> Result<Vec<u8>, String> {

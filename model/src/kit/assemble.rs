@@ -36,24 +36,20 @@ pub fn text(bytes: &[u8]) -> Result<&str, Fault> {
 
 /// A kit's bytes from its text.
 pub fn assemble(text: &str) -> Result<Vec<u8>, Fault> {
-    let mut assembly = Assembly {
-        kit: Vec::new(),
-        list: None,
-        before: lowest(),
-        lists: 0,
-    };
-    for (index, line) in text.lines().enumerate() {
-        assembly.line(line).map_err(|reason| Fault {
-            line: index + 1,
-            reason,
-        })?;
-    }
-    assembly.close();
-    Ok(assembly.kit)
+    Assembly::new(None).of(text).map(|assembly| assembly.kit)
+}
+
+/// The data that a list states.
+pub type Stated = [Datum; COUNT];
+
+/// A list's bytes from its text, which may say `else as A` of the data of a list before; and its data.
+pub(crate) fn list(text: &str, before: Option<&Stated>) -> Result<(Vec<u8>, Stated), Fault> {
+    let assembly = Assembly::new(before).of(text)?;
+    Ok((assembly.kit, assembly.before))
 }
 
 /// The words of a line, from front to back.
-type Tokens<'a> = std::iter::Peekable<std::vec::IntoIter<&'a str>>;
+pub(crate) type Tokens<'a> = std::iter::Peekable<std::vec::IntoIter<&'a str>>;
 
 /// A kit being put together.
 struct Assembly {
@@ -78,6 +74,28 @@ struct List {
 }
 
 impl Assembly {
+    /// Nothing yet, or the data of a list before.
+    fn new(before: Option<&Stated>) -> Assembly {
+        Assembly {
+            kit: Vec::new(),
+            list: None,
+            before: before.copied().unwrap_or_else(lowest),
+            lists: before.iter().count(),
+        }
+    }
+
+    /// With all lines of a text.
+    fn of(mut self, text: &str) -> Result<Assembly, Fault> {
+        for (index, line) in text.lines().enumerate() {
+            self.line(line).map_err(|reason| Fault {
+                line: index + 1,
+                reason,
+            })?;
+        }
+        self.close();
+        Ok(self)
+    }
+
     fn line(&mut self, line: &str) -> Result<(), String> {
         let line = line.split('#').next().unwrap_or("");
         let line = line.replace('=', " = ").replace(',', " ");
@@ -504,7 +522,7 @@ fn is_digits(token: &str) -> bool {
 }
 
 /// A whole number, decimal or with 0x.
-fn integer(token: &str, low: i64, high: i64, what: &str) -> Result<i64, String> {
+pub(crate) fn integer(token: &str, low: i64, high: i64, what: &str) -> Result<i64, String> {
     let text = token.replace('_', "");
     let number = match text.strip_prefix("0x") {
         Some(digits) => i64::from_str_radix(digits, 16),
@@ -518,7 +536,7 @@ fn integer(token: &str, low: i64, high: i64, what: &str) -> Result<i64, String> 
 }
 
 /// A word of 32 bits with 0x.
-fn word(token: &str) -> Result<u32, String> {
+pub(crate) fn word(token: &str) -> Result<u32, String> {
     let digits = token
         .strip_prefix("0x")
         .map(|digits| digits.replace('_', ""));
@@ -532,11 +550,11 @@ fn bits(tokens: &mut Tokens, count: u32) -> Result<u32, String> {
     integer(next(tokens, &what)?, 0, (1 << count) - 1, &what).map(|bits| bits as u32)
 }
 
-fn next<'a>(tokens: &mut Tokens<'a>, what: &str) -> Result<&'a str, String> {
+pub(crate) fn next<'a>(tokens: &mut Tokens<'a>, what: &str) -> Result<&'a str, String> {
     tokens.next().ok_or(format!("{what} is missing"))
 }
 
-fn expect(tokens: &mut Tokens, wanted: &str) -> Result<(), String> {
+pub(crate) fn expect(tokens: &mut Tokens, wanted: &str) -> Result<(), String> {
     match tokens.next() {
         Some(token) if token == wanted => Ok(()),
         Some(token) => Err(format!("'{wanted}' is wanted, not '{token}'")),

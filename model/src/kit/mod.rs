@@ -1,7 +1,7 @@
 //! The text form of kits: what people write and review, and a kit's bytes.
 
-mod assemble;
-mod input_words;
+pub(crate) mod assemble;
+pub(crate) mod input_words;
 mod show;
 
 pub use assemble::{assemble, text, Fault};
@@ -12,7 +12,7 @@ use crate::words;
 
 /// A datum as it stands in a list: its form and its pieces' bits.
 #[derive(Clone, Copy, Debug, PartialEq, Eq)]
-enum Datum {
+pub enum Datum {
     Whole(i32),
     Binary32(u32),
     Binary64(u64),

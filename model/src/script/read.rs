@@ -1,0 +1,487 @@
+//! From a script's text to its calls.
+
+use super::{Call, Given, Script, Step, MARK};
+use crate::kit::assemble::{self, expect, integer, next, word, Stated, Tokens};
+use crate::kit::input_words::InputWord;
+use crate::kit::Fault;
+use crate::words;
+use std::collections::BTreeMap;
+
+/// The words that begin a call; a line that begins with another belongs to the call above it.
+const CALLS: [&str; 8] = [
+    "list", "lists", "report", "cycle", "device", "log", "copy", "like",
+];
+
+/// The most that one line may be repeated.
+const MOST_TIMES: i64 = 1_000;
+
+/// The most words of an output.
+const MOST_OUTPUT: i64 = 16_384;
+
+/// A line without its comment: what is said, and the answer behind the arrow.
+#[derive(Clone, Copy)]
+struct Line<'a> {
+    number: usize,
+    said: &'a str,
+    answer: Option<&'a str>,
+}
+
+/// A call's line, and those that belong to it.
+struct Block<'a> {
+    call: Line<'a>,
+    body: Vec<Line<'a>>,
+}
+
+/// A script being read.
+#[derive(Default)]
+struct Reading {
+    channels: Vec<String>,
+    /// The data of the last list of each channel.
+    stated: BTreeMap<usize, Stated>,
+    steps: Vec<Step>,
+}
+
+/// The script of a text.
+pub fn script(name: &str, text: &str) -> Result<Script, Fault> {
+    let mut reading = Reading::default();
+    for block in blocks(text)? {
+        reading.block(&block)?;
+    }
+    if reading.steps.is_empty() {
+        return Err(fault(1, "no call"));
+    }
+    Ok(Script {
+        name: name.into(),
+        channels: reading.channels,
+        steps: reading.steps,
+    })
+}
+
+fn fault(line: usize, reason: impl Into<String>) -> Fault {
+    let reason = reason.into();
+    Fault { line, reason }
+}
+
+/// The calls of a text.
+fn blocks(text: &str) -> Result<Vec<Block<'_>>, Fault> {
+    let mut blocks: Vec<Block> = Vec::new();
+    for (index, line) in text.lines().enumerate() {
+        let line = line.split('#').next().unwrap_or("").trim();
+        let (said, answer) = match line.split_once("->") {
+            Some((said, answer)) => (said.trim(), Some(answer.trim())),
+            None => (line, None),
+        };
+        let line = Line {
+            number: index + 1,
+            said,
+            answer,
+        };
+        let first = said.split([' ', '\t', ',']).next().unwrap_or("");
+        match blocks.last_mut() {
+            _ if said.is_empty() && answer.is_none() => (),
+            _ if CALLS.contains(&first) => blocks.push(Block {
+                call: line,
+                body: Vec::new(),
+            }),
+            Some(block) => block.body.push(line),
+            None => return Err(fault(line.number, format!("'{first}' is no call"))),
+        }
+    }
+    Ok(blocks)
+}
+
+impl Block<'_> {
+    /// The text of a kit with the body's lines where they stand, and this one before them.
+    fn kit(&self, first: &str) -> String {
+        let mut text = "\n".repeat(self.call.number - 1) + first;
+        let mut at = self.call.number;
+        for line in &self.body {
+            text += &"\n".repeat(line.number - at);
+            text += line.said;
+            at = line.number;
+        }
+        text
+    }
+
+    /// No line may belong to the call, or none with an answer of its own.
+    fn no_body(&self, answers_only: bool) -> Result<(), Fault> {
+        let wrong = |line: &&Line| !answers_only || line.answer.is_some();
+        match self.body.iter().find(wrong) {
+            None => Ok(()),
+            Some(line) if answers_only => Err(fault(line.number, "no answer stands here")),
+            Some(line) => Err(fault(line.number, format!("'{}' is no call", line.said))),
+        }
+    }
+}
+
+impl Reading {
+    fn block(&mut self, block: &Block) -> Result<(), Fault> {
+        let Line {
+            number,
+            said,
+            answer,
+        } = block.call;
+        let here = |reason: String| fault(number, reason);
+        let said = said.replace(',', " ");
+        let tokens: Vec<&str> = said.split_whitespace().collect();
+        let mut tokens = tokens.into_iter().peekable();
+        let first = tokens.next().unwrap_or("");
+        let wanted = || answer.ok_or(here("-> and the answer are missing".into()));
+        match first {
+            "list" | "lists" => {
+                block.no_body(true)?;
+                let (names, options) = names_of_list(first, &mut tokens).map_err(here)?;
+                let answer = accepted("accepted", wanted()?).map_err(here)?;
+                return self.list(block, &names, &options, &answer);
+            }
+            "log" => {
+                let (a, b, room) = self.log(&mut tokens).map_err(here)?;
+                let (words, output) = log_words(block)?;
+                let mut answer = accepted("ran", wanted()?).map_err(here)?;
+                whole_output(&mut answer, &output, room).map_err(here)?;
+                let call = Call::Log { a, b, words, room };
+                self.push(number, call, answer);
+            }
+            _ => {
+                block.no_body(false)?;
+                let (call, times) = self.call(first, &mut tokens).map_err(here)?;
+                let answer = match call {
+                    Call::Copy { .. } => none(answer),
+                    Call::Like { .. } => like_answer(wanted()?),
+                    Call::Report { .. } => report_answer(wanted()?),
+                    Call::Cycle { .. } => cycle_answer(wanted()?),
+                    Call::Device { .. } => device_answer(wanted()?),
+                    Call::List { .. } | Call::Log { .. } => Ok(vec![]),
+                };
+                let answer = answer.map_err(here)?;
+                for _ in 0..times {
+                    self.push(number, call.clone(), answer.clone());
+                }
+            }
+        }
+        end(&mut tokens).map_err(here)
+    }
+
+    fn push(&mut self, line: usize, call: Call, answer: Vec<u32>) {
+        self.steps.push(Step { line, call, answer });
+    }
+
+    /// The place of a channel that has a list.
+    fn channel(&self, tokens: &mut Tokens) -> Result<usize, String> {
+        let name = next(tokens, "a channel's name")?;
+        let found = self.channels.iter().position(|known| known == name);
+        found.ok_or(format!("no channel '{name}' was made"))
+    }
+
+    /// The place of a channel, new or not.
+    fn new_channel(&mut self, name: &str) -> Result<usize, String> {
+        if !name.starts_with(|c: char| c.is_ascii_uppercase()) {
+            return Err(format!("'{name}' is no name: one begins with a capital"));
+        }
+        let known = self.channels.iter().position(|known| known == name);
+        Ok(known.unwrap_or_else(|| {
+            self.channels.push(name.into());
+            self.channels.len() - 1
+        }))
+    }
+
+    /// `list X, else as Y`, with its data below.
+    fn list(
+        &mut self,
+        block: &Block,
+        names: &[&str],
+        options: &str,
+        answer: &[u32],
+    ) -> Result<(), Fault> {
+        let here = |reason: String| fault(block.call.number, reason);
+        let (options, before) = match options.split_once("else as ") {
+            None => (options.to_string(), None),
+            Some((front, name)) => {
+                let mut tokens = vec![name.trim()].into_iter().peekable();
+                let of = self.channel(&mut tokens).map_err(here)?;
+                (format!("{front} else as A"), self.stated.get(&of))
+            }
+        };
+        let text = block.kit(&format!("list {options}"));
+        let (bytes, stated) = assemble::list(&text, before)?;
+        let words = whole_words(&bytes).map_err(here)?;
+        for name in names {
+            let of = self.new_channel(name).map_err(here)?;
+            let words = words.clone();
+            self.push(block.call.number, Call::List { of, words }, answer.into());
+            self.stated.insert(of, stated);
+        }
+        Ok(())
+    }
+
+    /// `X Y output 6`
+    fn log(&self, tokens: &mut Tokens) -> Result<(usize, usize, usize), String> {
+        let (a, b) = (self.channel(tokens)?, self.channel(tokens)?);
+        if a == b {
+            return Err("a log runs two channels".into());
+        }
+        expect(tokens, "output")?;
+        let words = "words of output";
+        let room = integer(next(tokens, words)?, 0, MOST_OUTPUT, words)?;
+        Ok((a, b, room as usize))
+    }
+
+    /// A call that is one line, and how often it is made.
+    fn call(&mut self, first: &str, tokens: &mut Tokens) -> Result<(Call, i64), String> {
+        let call = match first {
+            "report" => {
+                let of = self.channel(tokens)?;
+                let (position, inputs) = side(tokens)?;
+                Call::Report {
+                    of,
+                    position,
+                    inputs,
+                }
+            }
+            "cycle" => self.cycle(tokens)?,
+            "device" => {
+                let a = word(next(tokens, "a channel word")?)?;
+                let b = word(next(tokens, "a channel word")?)?;
+                Call::Device { a, b }
+            }
+            "copy" => {
+                let from = self.channel(tokens)?;
+                expect(tokens, "to")?;
+                let to = self.new_channel(next(tokens, "a channel's name")?)?;
+                if let Some(&stated) = self.stated.get(&from) {
+                    self.stated.insert(to, stated);
+                }
+                Call::Copy { from, to }
+            }
+            _ => {
+                let (one, other) = (self.channel(tokens)?, self.channel(tokens)?);
+                Call::Like { one, other }
+            }
+        };
+        let times = match tokens.next_if_eq(&"times") {
+            None => 1,
+            Some(_) => integer(next(tokens, "how often")?, 1, MOST_TIMES, "how often")?,
+        };
+        Ok((call, times))
+    }
+
+    /// `X 401 SG1 ack, report of Y`, `X 401 SG1, report 401 SG1 datum 12`
+    fn cycle(&self, tokens: &mut Tokens) -> Result<Call, String> {
+        let of = self.channel(tokens)?;
+        let (position, inputs) = side(tokens)?;
+        let acknowledged = match tokens.next_if_eq(&"ack") {
+            None => 0,
+            Some(_) => {
+                match tokens.next_if(|token| token.starts_with(|c: char| c.is_ascii_digit())) {
+                    None => 1,
+                    Some(number) => {
+                        integer(number, 0, u32::MAX.into(), "an acknowledgement word")? as u32
+                    }
+                }
+            }
+        };
+        expect(tokens, "report")?;
+        let report = match tokens.next_if_eq(&"of") {
+            None => Given::Words(report(tokens)?),
+            Some(_) => {
+                let of = self.channel(tokens)?;
+                // Without a word it is at the same position with the same inputs.
+                let (position, inputs) = match tokens.peek() {
+                    None | Some(&"times") => (position, inputs),
+                    Some(_) => side(tokens)?,
+                };
+                Given::Of {
+                    of,
+                    position,
+                    inputs,
+                }
+            }
+        };
+        Ok(Call::Cycle {
+            of,
+            position,
+            inputs,
+            acknowledged,
+            report,
+        })
+    }
+}
+
+/// `X else lowest`, or `X and Y` of `lists`: the names, and what stands behind them.
+fn names_of_list<'a>(
+    first: &str,
+    tokens: &mut Tokens<'a>,
+) -> Result<(Vec<&'a str>, String), String> {
+    let mut names = vec![next(tokens, "a channel's name")?];
+    if first == "lists" {
+        expect(tokens, "and")?;
+        names.push(next(tokens, "a channel's name")?);
+    }
+    let options: Vec<&str> = tokens.collect();
+    Ok((names, options.join(" ")))
+}
+
+/// `401 SG1 SE2 no-stop`: any position of 32 bits, and inputs.
+fn side(tokens: &mut Tokens) -> Result<(i32, u32), String> {
+    let ends = (i64::from(i32::MIN), i64::from(i32::MAX));
+    let what = "a position of 32 bits";
+    let position = integer(next(tokens, what)?, ends.0, ends.1, what)?;
+    let mut inputs = InputWord::default();
+    while let Some(token) =
+        tokens.next_if(|token| !["ack", "report", "datum", "times"].contains(token))
+    {
+        if !inputs.take(token, tokens)? {
+            return Err(format!("'{token}' is not known as an input"));
+        }
+    }
+    Ok((position as i32, inputs.word()?))
+}
+
+/// `401 SG1 datum 12`
+fn report(tokens: &mut Tokens) -> Result<[u32; 3], String> {
+    let (position, inputs) = side(tokens)?;
+    expect(tokens, "datum")?;
+    let ends = (i64::from(i32::MIN), i64::from(i32::MAX));
+    let datum = integer(next(tokens, "a datum")?, ends.0, ends.1, "a datum")?;
+    Ok([position as u32, inputs, datum as u32])
+}
+
+// ---- answers
+
+fn tokens(text: &str) -> Vec<String> {
+    let text = text.replace(',', " ");
+    text.split_whitespace().map(String::from).collect()
+}
+
+fn end(tokens: &mut Tokens) -> Result<(), String> {
+    match tokens.next() {
+        None => Ok(()),
+        Some(surplus) => Err(format!("'{surplus}' is surplus")),
+    }
+}
+
+fn none(said: Option<&str>) -> Result<Vec<u32>, String> {
+    match said {
+        None => Ok(vec![]),
+        Some(_) => Err("this call has no answer".into()),
+    }
+}
+
+fn like_answer(text: &str) -> Result<Vec<u32>, String> {
+    match text {
+        "yes" => Ok(vec![1]),
+        "no" => Ok(vec![0]),
+        _ => Err(format!("'{text}' is not yes or no")),
+    }
+}
+
+/// `accepted 154` or `ran 2`; `refused 4 10`.
+fn accepted(word: &str, text: &str) -> Result<Vec<u32>, String> {
+    let wrong = || format!("'{text}' is not {word} N or refused NUMBER PLACE");
+    let number = |text: &str| integer(text, 0, u32::MAX.into(), "a number").map(|n| n as u32);
+    let tokens = tokens(text);
+    match &tokens.iter().map(String::as_str).collect::<Vec<_>>()[..] {
+        [first, at] if *first == word => Ok(vec![0, number(at)?]),
+        ["refused", refused, at] if number(refused)? > 0 => Ok(vec![number(refused)?, number(at)?]),
+        _ => Err(wrong()),
+    }
+}
+
+fn report_answer(text: &str) -> Result<Vec<u32>, String> {
+    let tokens = tokens(text);
+    let tokens: Vec<&str> = tokens.iter().map(String::as_str).collect();
+    let mut tokens = tokens.into_iter().peekable();
+    let report = report(&mut tokens)?;
+    end(&mut tokens)?;
+    Ok(report.to_vec())
+}
+
+/// `03000081 causes 3 9`, `00000081 no cause`
+fn cycle_answer(text: &str) -> Result<Vec<u32>, String> {
+    let wrong = || format!("'{text}' is no channel word with its causes, or with no cause");
+    let tokens = tokens(text);
+    let tokens: Vec<&str> = tokens.iter().map(String::as_str).collect();
+    let (word, causes) = tokens.split_first().ok_or_else(wrong)?;
+    let mut answer = vec![channel_word(word)?];
+    match causes {
+        ["no", "cause"] => (),
+        ["cause" | "causes", codes @ ..] if !codes.is_empty() => {
+            for code in codes {
+                answer.push(integer(code, 1, 13, "a cause code")? as u32);
+            }
+            answer[1..].sort_unstable();
+        }
+        _ => return Err(wrong()),
+    }
+    Ok(answer)
+}
+
+/// A channel word as the bench lists it.
+fn channel_word(text: &str) -> Result<u32, String> {
+    let word = u32::from_str_radix(text, 16).ok();
+    word.filter(|_| text.len() == 8)
+        .ok_or(format!("'{text}' is no word of 8 hexadecimal digits"))
+}
+
+fn device_answer(text: &str) -> Result<Vec<u32>, String> {
+    let word = u32::from_str_radix(text, 16).ok();
+    let word = word.ok_or(format!("'{text}' is no device word"))?;
+    Ok(vec![word])
+}
+
+/// `03000081 03000081 7`: a cycle's words of the output.
+fn three_words(text: &str) -> Result<[u32; 3], String> {
+    let tokens = tokens(text);
+    match &tokens[..] {
+        [a, b, device] => Ok([
+            channel_word(a)?,
+            channel_word(b)?,
+            device_answer(device)?[0],
+        ]),
+        _ => Err(format!("'{text}' is not A's word, B's word, device word")),
+    }
+}
+
+/// The words of a log, and those of the output that stand behind its records.
+fn log_words(block: &Block) -> Result<(Vec<u32>, Vec<u32>), Fault> {
+    let bytes = assemble::assemble(&block.kit(""))?;
+    let words = whole_words(&bytes).map_err(|reason| fault(block.call.number, reason))?;
+    let mut output = Vec::new();
+    for line in &block.body {
+        let Some(answer) = line.answer else {
+            continue;
+        };
+        let three = three_words(answer).map_err(|reason| fault(line.number, reason))?;
+        let mut said = line.said.split_whitespace().skip_while(|&t| t != "times");
+        let times = said.nth(1).and_then(|times| times.parse().ok());
+        for _ in 0..times.unwrap_or(1) {
+            output.extend(three);
+        }
+    }
+    Ok((words, output))
+}
+
+/// The whole output behind a log's answer: the cycles' words, and the rest as it was.
+fn whole_output(answer: &mut Vec<u32>, output: &[u32], room: usize) -> Result<(), String> {
+    let said = output.len() / 3;
+    let ran = if answer[0] == 0 {
+        answer[1] as usize
+    } else {
+        0
+    };
+    if ran != said {
+        return Err(format!("{ran} cycles run, and words stand for {said}"));
+    }
+    let rest = room.checked_sub(output.len());
+    let rest = rest.ok_or("the words do not go into the output")?;
+    answer.extend(output);
+    answer.extend(vec![MARK; rest]);
+    Ok(())
+}
+
+fn whole_words(bytes: &[u8]) -> Result<Vec<u32>, String> {
+    match bytes.len() % 4 {
+        0 => Ok(words::of_bytes(bytes)),
+        _ => Err("these are no whole words".into()),
+    }
+}

@@ -1,0 +1,524 @@
+//! Scripts of calls: all of them on the model and on the proved monitor, the plain form, and that the runner can fail.
+
+mod common;
+use common::beside;
+use model::channel::image::Lent;
+use model::list::Refusal;
+use model::script::{self, Board, Call, Cycle, Model, Script};
+use std::fs;
+
+fn scripts() -> Vec<Script> {
+    match script::folder(&beside("scripts")) {
+        Ok(scripts) => scripts,
+        Err(faults) => panic!("{faults}"),
+    }
+}
+
+/// The first difference of each script that is told.
+fn told<B: Board>(scripts: &[Script]) -> Vec<String> {
+    let told = scripts.iter().filter_map(|one| script::run::<B>(one).err());
+    told.map(|difference| difference.to_string()).collect()
+}
+
+const QUOTE: &str = "# 01 (SUPPLIER 5): \"An empty log is accepted.\"\n";
+
+fn script_of(text: &str) -> Script {
+    let text = format!("{QUOTE}{text}");
+    Script::of("own", &text).unwrap_or_else(|fault| panic!("{fault}\n{text}"))
+}
+
+#[test]
+fn every_script_on_the_model() {
+    let scripts = scripts();
+    assert!(scripts.len() >= 40, "{}", scripts.len());
+    assert_eq!(told::<Model>(&scripts), [""; 0]);
+}
+
+#[cfg(feature = "proved")]
+#[test]
+fn every_script_on_the_proved_monitor() {
+    assert_eq!(told::<script::Proved>(&scripts()), [""; 0]);
+}
+
+#[test]
+fn the_plain_form_is_that_of_the_scripts() {
+    let plain = script::plain(&scripts()).expect("the model agrees");
+    let kept = fs::read_to_string(beside("scripts/calls.plain")).expect("the plain form");
+    assert!(
+        plain == kept,
+        "make it anew: kit scripts scripts > scripts/calls.plain"
+    );
+    let longest = plain.lines().map(str::len).max();
+    assert!(longest < Some(65_536), "{longest:?}");
+    let channels = scripts().iter().map(|script| script.channels.len()).max();
+    assert!(channels <= Some(8), "{channels:?}");
+}
+
+#[test]
+fn the_page_s_script_runs() {
+    let page = fs::read_to_string(beside("model/docs/SCRIPTS.md")).expect("the page");
+    let (_, behind) = page.split_once("```script\n").expect("a script");
+    let (text, _) = behind.split_once("```").expect("its end");
+    let script = Script::of("page", text).unwrap_or_else(|fault| panic!("{fault}"));
+    assert_eq!(told::<Model>(&[script]), [""; 0]);
+}
+
+/// The calls by their words and numbers, in the page and in the example.
+#[test]
+fn the_paper_s_function_is_the_example_s() {
+    let paper = fs::read_to_string(beside("docs/SUPPLIER.md")).expect("the paper");
+    let (_, behind) = paper.split_once("```c\n").expect("a function");
+    let (function, _) = behind.split_once("```").expect("its end");
+    let example = fs::read_to_string(beside("examples/scripts.c")).expect("the example");
+    assert!(example.contains(function), "{function}");
+}
+
+// ---- that the runner can fail
+
+/// Wrong boards by their numbers; 0 is right.
+struct Wrong<const N: u32>;
+
+impl<const N: u32> Board for Wrong<N> {
+    type Channel = Lent;
+
+    fn none() -> Lent {
+        Model::none()
+    }
+
+    fn list(channel: &mut Lent, words: &[u32]) -> Result<usize, Refusal> {
+        let answer = Model::list(channel, words);
+        match N {
+            // A refused list leaves no channel.
+            1 if answer.is_err() => *channel = Model::none(),
+            // All the words are the list's.
+            2 => return answer.map(|_| words.len()),
+            _ => (),
+        }
+        answer
+    }
+
+    fn report(channel: &Lent, position: i32, inputs: u32) -> [u32; 3] {
+        let mut report = Model::report(channel, position, inputs);
+        match N {
+            3 => report[2] = channel.data()[0] as u32,
+            4 => report[1] &= 0xf03c_101b,
+            5 => report[0] = (report[0] << 4) as i32 as u32 >> 4,
+            _ => (),
+        }
+        report
+    }
+
+    fn cycle(
+        channel: &mut Lent,
+        position: i32,
+        inputs: u32,
+        acknowledged: u32,
+        report: &[u32; 3],
+    ) -> Cycle {
+        let acknowledged = if N == 6 {
+            acknowledged & 1
+        } else {
+            acknowledged
+        };
+        let before = channel.clone();
+        let mut cycle = Model::cycle(channel, position, inputs, acknowledged, report);
+        let stand = cycle.codes.iter().filter(|&&code| code != 0).count();
+        match N {
+            // The first cause alone.
+            7 => cycle.codes[1..].fill(0),
+            // None where the rank is 5 already.
+            8 if before.state()[13] == 3 => cycle.codes.fill(0),
+            // 13 is left out where the cycle clears.
+            9 if acknowledged != 0 && cycle.word >> 24 == 0 => cycle.codes.fill(0),
+            // A code twice.
+            10 if stand > 0 => cycle.codes[stand] = cycle.codes[0],
+            // Behind a 0.
+            11 => cycle.codes.rotate_right(1),
+            // The last code has another's number.
+            12 if stand > 1 => cycle.codes[stand - 1] += 1,
+            _ => (),
+        }
+        cycle
+    }
+
+    fn device(a: u32, b: u32) -> u32 {
+        match N {
+            13 => Model::device(a & !4, b & !4),
+            14 => Model::device(a & !(u32::from(a >> 25 & 3 == 3) << 25), b),
+            15 => Model::device(a, b) | a & 0x80,
+            _ => Model::device(a, b),
+        }
+    }
+
+    fn log(
+        a: &mut Lent,
+        b: &mut Lent,
+        words: &[u32],
+        output: &mut [u32],
+    ) -> Result<usize, Refusal> {
+        let before = (a.clone(), b.clone());
+        let room = output.len();
+        let answer = Model::log(a, b, words, output);
+        let refusal = |number, place| Err(Refusal { number, place });
+        match (N, answer) {
+            // Cycles wanted, not words.
+            (16, Err(Refusal { number: 7, place })) => return refusal(7, place / 3),
+            // Words lacking.
+            (17, Err(Refusal { number: 7, place })) => return refusal(7, place - room),
+            // The length as the place.
+            (
+                18,
+                Err(Refusal {
+                    number: 6,
+                    place: 16_384,
+                }),
+            ) => return refusal(6, words.len()),
+            // As many cycles as there is room for are run all the same.
+            (19, Err(Refusal { number: 7, .. })) => {
+                let mut rest = vec![0; 30_000];
+                let _ = Model::log(a, b, words, &mut rest);
+                output.copy_from_slice(&rest[..room]);
+            }
+            // The channels alone are run on.
+            (20, Err(Refusal { number: 7, .. })) => {
+                let _ = Model::log(a, b, words, &mut vec![0; 30_000]);
+            }
+            // The rest of the output is cleared.
+            (21, Ok(cycles)) => output[3 * cycles..].fill(0),
+            // One word behind the last is.
+            (22, Ok(cycles)) => output
+                .iter_mut()
+                .skip(3 * cycles)
+                .take(1)
+                .for_each(|w| *w = 0),
+            // No channel comes back, or one.
+            (23, Ok(_)) => (*a, *b) = before,
+            (24, Ok(_)) => *b = before.1,
+            (25, Ok(0)) => return refusal(6, 0),
+            // 7 before 6.
+            (26, Err(Refusal { number: 6, .. })) if room < words.len() / 7 * 3 => {
+                return refusal(7, words.len() / 7 * 3)
+            }
+            // Every remark wants output.
+            (27, Ok(cycles)) if 3 * cycles + words.len() % 7 > room => {
+                return refusal(7, 3 * cycles + words.len() % 7)
+            }
+            // A's and B's words the other way about.
+            (28, Ok(cycles)) => output[..3 * cycles]
+                .chunks_exact_mut(3)
+                .for_each(|three| three.swap(0, 1)),
+            _ => (),
+        }
+        answer
+    }
+}
+
+/// Every wrong board from N on is told by some script: the names of those that are not.
+fn untold(scripts: &[Script]) -> Vec<u32> {
+    macro_rules! of {
+        ($($n:literal)*) => { [$(($n, told::<Wrong<$n>>(scripts).len())),*] };
+    }
+    let told = of!(0 1 2 3 4 5 6 7 8 9 10 11 12 13 14 15 16 17 18 19 20 21 22 23 24 25 26 27 28);
+    assert_eq!(told[0], (0, 0));
+    let untold = told[1..].iter().filter(|(_, scripts)| *scripts == 0);
+    untold.map(|(board, _)| *board).collect()
+}
+
+#[test]
+fn each_wrong_board_is_told() {
+    assert_eq!(untold(&scripts()), [0; 0]);
+}
+
+/// Two channels, and a cycle of both.
+const LISTS: &str = "lists X and Y -> accepted 154\n  0 = 12\n  34 = 9\n";
+
+#[test]
+fn each_wrong_answer_is_told() {
+    for (text, told) in [
+        (
+            "list X -> accepted 153",
+            "line 2: expected accepted 153; found accepted 154",
+        ),
+        (
+            "list X -> refused 4 1\n0 = 12",
+            "line 2: expected refused 4 1; found accepted 154",
+        ),
+        (
+            "list X -> refused 4 2\n0 = 26",
+            "line 2: expected refused 4 2; found refused 4 1",
+        ),
+        (
+            "list X -> accepted 154\nreport X 5 SG1 -> 5 SG1 datum 2",
+            "line 3: expected 5 SG1 datum 2; found 5 SG1 datum 1",
+        ),
+        (
+            "list X -> accepted 154\ncycle X 0 off, report 1 off datum 2 -> 15000084 causes 10 13",
+            "line 3: expected 15000084 causes 10 13; found 15000084 causes 10 12 13",
+        ),
+        (
+            "list X -> accepted 154\ncycle X 0 off, report of X -> 00000080 cause 1",
+            "line 3: expected 00000080 causes 1; found 00000080 no cause",
+        ),
+        (
+            "list X -> accepted 154\ncycle X 0 off, report of X times 2 -> 00000081 no cause",
+            "line 3: expected 00000081 no cause; found 00000080 no cause",
+        ),
+        (
+            "device 0x00000004 0x00000000 -> b",
+            "line 2: expected b; found a",
+        ),
+        (
+            "list X -> accepted 154\ncopy X to Y\nlike X Y -> no",
+            "line 4: expected no; found yes",
+        ),
+    ] {
+        let difference = script::run::<Model>(&script_of(text)).err().expect(text);
+        assert_eq!(difference.to_string(), format!("own.txt: {told}"));
+    }
+    let cycle = "log X Y, output 5 -> ran 1\n  both 0 off -> 00000080 00000080 1\n";
+    let short = "log X Y, output 2 -> refused 7 3\n  both 0 off\n";
+    let first = |text: &str, board: fn(&[Script]) -> Vec<String>| {
+        board(&[script_of(&format!("{LISTS}{text}"))]).concat()
+    };
+    assert_eq!(first(cycle, told::<Model>), "");
+    assert_eq!(
+        first(cycle, told::<Wrong<22>>),
+        "own.txt: line 5: expected a5a5a5a5 in word 3 of the output; found 00000000 in word 3 of the output"
+    );
+    assert_eq!(
+        first(&cycle.replace("80 1\n", "80 3\n"), told::<Model>),
+        "own.txt: line 5: expected 00000003 in word 2 of the output; found 00000001 in word 2 of the output"
+    );
+    assert_eq!(
+        first(short, told::<Wrong<20>>),
+        "own.txt: line 5: expected channel X as it was; found it changed"
+    );
+    assert_eq!(
+        first(short, told::<Wrong<19>>),
+        "own.txt: line 5: expected a5a5a5a5 in word 0 of the output; found 00000080 in word 0 of the output"
+    );
+    assert_eq!(
+        first("list X -> refused 4 1\n0 = 26", told::<Wrong<1>>),
+        "own.txt: line 5: expected channel X as it was; found it changed"
+    );
+}
+
+#[test]
+fn a_text_that_is_no_script_is_refused() {
+    let fresh = "list X -> accepted 154\n";
+    for (text, reason) in [
+        ("", "line 1: no call"),
+        ("both 0 SG1", "line 2: 'both' is no call"),
+        ("list X", "line 2: -> and the answer are missing"),
+        (
+            "list x -> accepted 154",
+            "line 2: 'x' is no name: one begins with a capital",
+        ),
+        (
+            "list X -> yes",
+            "line 2: 'yes' is not accepted N or refused NUMBER PLACE",
+        ),
+        (
+            "list X -> accepted 154\n\n  51 = 1",
+            "line 4: '51' is not a datum's number from 0 to 50",
+        ),
+        (
+            "list X -> accepted 154\n  0 = 1 -> 1",
+            "line 3: no answer stands here",
+        ),
+        (
+            "list X, else as Y -> accepted 154",
+            "line 2: no channel 'Y' was made",
+        ),
+        (
+            "list X -> accepted 154\n byte 1",
+            "line 2: these are no whole words",
+        ),
+        (
+            "report X 0 SG1 -> 0 SG1 datum 1",
+            "line 2: no channel 'X' was made",
+        ),
+        (
+            "device 4 0x0 -> 1",
+            "line 2: '4' is not 0x and a 32-bit word",
+        ),
+        ("device 0x4 0x0 0x0 -> 1", "line 2: '0x0' is surplus"),
+    ] {
+        let fault = Script::of("own", &format!("{QUOTE}{text}")).expect_err(text);
+        assert_eq!(fault.to_string(), reason, "{text}");
+    }
+    for (text, reason) in [
+        ("cycle X 0 SG1 -> 00000081 no cause", "'report' is missing"),
+        (
+            "cycle X 0 SG1, report of X -> 00000081",
+            "'00000081' is no channel word with its causes, or with no cause",
+        ),
+        (
+            "cycle X 0 SG1, report of X -> 81 no cause",
+            "'81' is no word of 8 hexadecimal digits",
+        ),
+        (
+            "cycle X 0 SG1, report of X -> 00000081 cause 14",
+            "'14' is not a cause code from 1 to 13",
+        ),
+        (
+            "cycle X 0 SG1, report 0 SG1 -> 00000081 no cause",
+            "'datum' is missing",
+        ),
+        (
+            "cycle X 2147483648 SG1, report of X -> 00000081 no cause",
+            "'2147483648' is not a position of 32 bits from -2147483648 to 2147483647",
+        ),
+        ("log X X, output 3 -> ran 0", "a log runs two channels"),
+        ("copy X to Y -> yes", "this call has no answer"),
+        ("like X X -> 1", "'1' is not yes or no"),
+    ] {
+        let fault = Script::of("own", &format!("{QUOTE}{fresh}{text}")).expect_err(text);
+        assert_eq!(fault.to_string(), format!("line 3: {reason}"), "{text}");
+    }
+    for (log, reason) in [
+        (
+            "output 3 -> ran 1\nboth 0 off",
+            "line 5: 1 cycles run, and words stand for 0",
+        ),
+        (
+            "output 3 -> refused 7 6\nboth 0 off -> 00000080 00000080 1",
+            "line 5: 0 cycles run, and words stand for 1",
+        ),
+        (
+            "output 2 -> ran 1\nboth 0 off -> 00000080 00000080 1",
+            "line 5: the words do not go into the output",
+        ),
+        (
+            "output 3 -> ran 1\nboth 0 off -> 00000080 00000080",
+            "line 6: '00000080 00000080' is not A's word, B's word, device word",
+        ),
+        (
+            "output 3 -> ran 1\nboth 0 of -> 00000080 00000080 1",
+            "line 6: 'of' is not known as an input",
+        ),
+    ] {
+        let text = format!("{QUOTE}{LISTS}log X Y, {log}");
+        let fault = Script::of("own", &text).expect_err(log);
+        assert_eq!(fault.to_string(), reason, "{log}");
+    }
+    assert!(
+        Script::of("own", "device 0x0 0x0 -> 1").is_err(),
+        "no quote"
+    );
+}
+
+#[test]
+fn long_rows_are_short_in_the_plain_form() {
+    let text = format!("{LISTS}log X Y, output 40 -> ran 10\nremark times 20\nboth 0 off times 10 -> 00000080 00000080 1\n");
+    let script = script_of(&text);
+    let Call::Log { words, .. } = &script.steps[2].call else {
+        panic!("a log");
+    };
+    assert_eq!(words.len(), 90);
+    let plain = script::plain(&[script]).expect("the model agrees");
+    let last = plain.lines().last().unwrap_or("");
+    assert_eq!(last, "5 5 0 1 28 f0000000 *13 1 40000000 50000001 60000000 40000000 50000001 60000000 70000000 *9 7 = 0 a 80 80 1 *9 3 a5a5a5a5 *9 1");
+}
+
+#[cfg(feature = "proved")]
+mod on_a_board {
+    use super::*;
+    use std::path::{Path, PathBuf};
+    use std::process::{Command, Output};
+    use std::sync::LazyLock;
+
+    /// `scripts.c` over the archive.
+    static PROGRAM: LazyLock<PathBuf> = LazyLock::new(|| {
+        let program = Path::new(env!("CARGO_TARGET_TMPDIR")).join("scripts");
+        let include = format!("-I{}", beside("include").display());
+        let mut compiler = Command::new("cc");
+        compiler.args([
+            "-std=c11",
+            "-Wall",
+            "-Wextra",
+            "-Wpedantic",
+            "-Werror",
+            "-O2",
+        ]);
+        compiler.arg(include).arg(beside("examples/scripts.c"));
+        // The logs may have an archive of their own.
+        compiler.args(option_env!("MONITOR_LOGS_ARCHIVE"));
+        compiler
+            .arg(env!("MONITOR_ARCHIVE"))
+            .arg("-o")
+            .arg(&program);
+        let Output { status, stderr, .. } = compiler.output().expect("the compiler");
+        let said = String::from_utf8_lossy(&stderr);
+        assert!(status.success() && said.is_empty(), "{said}");
+        program
+    });
+
+    /// What it prints for a plain form, and its exit status.
+    fn printed(name: &str, plain: &str) -> (String, Option<i32>) {
+        let file = Path::new(env!("CARGO_TARGET_TMPDIR")).join(name);
+        fs::write(&file, plain).expect("the file");
+        let Output { status, stdout, .. } = Command::new(&*PROGRAM)
+            .arg(&file)
+            .output()
+            .expect("it runs");
+        (String::from_utf8_lossy(&stdout).into_owned(), status.code())
+    }
+
+    #[test]
+    fn every_script_agrees() {
+        let scripts = scripts();
+        let plain = script::plain(&scripts).expect("the model agrees");
+        let all = scripts.len();
+        let expected = (format!("{all} of {all} scripts agree\n"), Some(0));
+        assert_eq!(printed("all.plain", &plain), expected);
+    }
+
+    #[test]
+    fn a_wrong_answer_is_told() {
+        let text = format!("{LISTS}log X Y, output 4 -> ran 1\n  both 0 off -> 00000080 00000080 1\ncycle X 0 off, report of X 1 off -> 10000080 cause 10\n");
+        let plain = script::plain(&[script_of(&text)]).expect("the model agrees");
+        let right = ("1 of 1 scripts agree\n".to_string(), Some(0));
+        assert_eq!(printed("right.plain", &plain), right);
+        for (name, old, new, told) in [
+            (
+                "word",
+                "= 10000080 a",
+                "= 10000081 a",
+                "own: line 7, expected 10000081 a, found 10000080 a",
+            ),
+            (
+                "code",
+                "= 10000080 a",
+                "= 10000080 b",
+                "own: line 7, expected 10000080 b, found 10000080 a",
+            ),
+            (
+                "codes",
+                "= 10000080 a",
+                "= 10000080 a d",
+                "own: line 7, expected 10000080 a d, found 10000080 a",
+            ),
+            (
+                "behind",
+                "a5a5a5a5",
+                "0",
+                "own: line 5, expected 0 1 80 80 1 0, found 0 1 80 80 1 a5a5a5a5",
+            ),
+            (
+                "call",
+                "7 3 0",
+                "7 ff 0",
+                "own: line 7, expected 10000080 a, found",
+            ),
+            ("sign", "=", "", "own: no call: \n"),
+        ] {
+            assert!(plain.contains(old), "{old}");
+            let (text, status) = printed(name, &plain.replacen(old, new, 1));
+            assert!(text.starts_with(told), "{text}");
+            assert!(text.ends_with("0 of 1 scripts agree\n"), "{text}");
+            assert_eq!(status, Some(1));
+        }
+        assert_eq!(printed("none", "").1, Some(1));
+    }
+}

@@ -12,6 +12,9 @@ const HEAD: &str =
 
 const SECTIONS: &str = "| Section | Sentences |";
 
+/// What stands before a script's name.
+const SCRIPT: &str = "script:";
+
 /// A row of a table: an id and what is cited for its sentence.
 struct Row {
     id: String,
@@ -39,7 +42,7 @@ struct Repository {
     definitions: BTreeSet<String>,
     theorems: BTreeSet<String>,
     edits: BTreeSet<String>,
-    /// Each kit with its quotes of document 01.
+    /// Each kit, and each script as `script:NAME`, with its quotes of document 01.
     kits: BTreeMap<String, Vec<Quote>>,
     /// The sections of the supplier's paper.
     sections: BTreeSet<String>,
@@ -122,6 +125,19 @@ fn matches(pattern: &str, name: &str) -> bool {
             let mut ends = name.char_indices().map(|(i, _)| i).chain([name.len()]);
             ends.any(|i| matches(rest, &name[i..]))
         }),
+    }
+}
+
+/// Whether a pattern is a name's, of scripts if it is one of scripts.
+fn cites_name(pattern: &str, name: &str) -> bool {
+    pattern.starts_with(SCRIPT) == name.starts_with(SCRIPT) && matches(pattern, name)
+}
+
+/// `kit k-1`, `script s-1`
+fn called(what: &str, name: &str) -> String {
+    match name.strip_prefix(SCRIPT) {
+        Some(name) => format!("script {name}"),
+        None => format!("{what} {name}"),
     }
 }
 
@@ -254,10 +270,12 @@ fn repository() -> Repository {
     for folder in crates() {
         add_crate(&mut all, &folder);
     }
-    for path in files(&beside("kits"), ".txt") {
-        let text = fs::read_to_string(&path).expect("a kit");
-        let quotes = conformance::quotes(&text);
-        all.kits.insert(stem(&path), quotes.unwrap_or_default());
+    for (folder, kind) in [("kits", ""), ("scripts", SCRIPT)] {
+        for path in files(&beside(folder), ".txt") {
+            let text = fs::read_to_string(&path).expect("a text");
+            let quotes = conformance::quotes(&text).unwrap_or_default();
+            all.kits.insert(format!("{kind}{}", stem(&path)), quotes);
+        }
     }
     let paper = fs::read_to_string(beside("docs").join("SUPPLIER.md")).expect("the paper");
     all.sections = headings(&paper);
@@ -292,9 +310,12 @@ fn of_patterns<'a>(
     if cited(cell).next().is_none() {
         return vec![format!("{id}: no {what} and no dash")];
     }
-    let idle = cited(cell).filter(|pattern| !there.clone().any(|name| matches(pattern, name)));
-    idle.map(|pattern| format!("{id}: no {what} is '{pattern}'"))
-        .collect()
+    let idle = cited(cell).filter(|pattern| !there.clone().any(|name| cites_name(pattern, name)));
+    idle.map(|pattern| match pattern.strip_prefix(SCRIPT) {
+        Some(pattern) => format!("{id}: no script is '{pattern}'"),
+        None => format!("{id}: no {what} is '{pattern}'"),
+    })
+    .collect()
 }
 
 fn of_row(row: &Row, there: &Repository, notes: &[String]) -> Vec<String> {
@@ -328,7 +349,7 @@ fn twice<'a>(names: impl Iterator<Item = &'a String>) -> Vec<&'a String> {
 }
 
 fn cites(cell: &str, name: &str) -> bool {
-    cited(cell).any(|pattern| matches(pattern, name))
+    cited(cell).any(|pattern| cites_name(pattern, name))
 }
 
 /// A quote stands in a sentence, or the sentence in the quote.
@@ -375,7 +396,7 @@ fn of_sections(page: &Page, there: &BTreeSet<String>) -> Vec<String> {
     faults
 }
 
-/// A kit is cited, and each of its quotes stands in a row that cites it and has its section.
+/// A kit or a script is cited, and each of its quotes stands in a row that cites it and has its section.
 fn of_kit(
     kit: &str,
     quotes: &[Quote],
@@ -383,13 +404,12 @@ fn of_kit(
     sections: &BTreeMap<&str, Vec<&str>>,
 ) -> Vec<String> {
     let citing: Vec<&Row> = rows.iter().filter(|row| cites(&row.kits, kit)).collect();
+    let kit = called("kit", kit);
     if citing.is_empty() {
-        return vec![format!("kit {kit}: no row cites it")];
+        return vec![format!("{kit}: no row cites it")];
     }
     if quotes.is_empty() {
-        return vec![format!(
-            "kit {kit}: no quotes, or not each with its section"
-        )];
+        return vec![format!("{kit}: no quotes, or not each with its section")];
     }
     let fault = |Quote { section, sentence }: &Quote| {
         let rows = citing.iter().filter(|row| stands(sentence, &row.sentence));
@@ -407,7 +427,7 @@ fn of_kit(
         })
     };
     let faults = quotes.iter().filter_map(fault);
-    faults.map(|fault| format!("kit {kit}: {fault}")).collect()
+    faults.map(|fault| format!("{kit}: {fault}")).collect()
 }
 
 fn of_notes(page: &Page) -> Vec<String> {
@@ -473,7 +493,7 @@ fn every_public_function_ensures_something() {
 
 // ---- that the check can fail
 
-/// A small repository: one crate, two kits, two edits.
+/// A small repository: one crate, two kits, a script, two edits.
 fn small() -> Repository {
     let set = |names: &[&str]| names.iter().map(|name| name.to_string()).collect();
     let kit = |name: &str, section: &str, sentence: &str| {
@@ -487,6 +507,7 @@ fn small() -> Repository {
         kits: [
             kit("k-1", "1", "first part"),
             kit("k-2", "2.1", "The whole | sentence."),
+            kit("script:k-3", "2.1", "whole"),
         ]
         .into(),
         sections: set(&["1", "2", "2.1"]),
@@ -494,7 +515,7 @@ fn small() -> Repository {
 }
 
 const GOOD: &str = "| X1 | The first part of it. | `c/Def` | `c/law` | `k-1` | `c/*` |
-| X2 | whole \\| sentence | `c/Def` | `c/law` | `k-*` | – (1) |
+| X2 | whole \\| sentence | `c/Def` | `c/law` | `k-*`, `script:k-3` | – (1) |
 
 (1) None.
 
@@ -519,7 +540,7 @@ fn a_good_page_has_no_fault() {
 #[test]
 fn each_fault_of_a_row_is_found() {
     for (old, new, fault) in [
-        ("X2", "X1", "X1: twice; section 2.1: no rows 'X1 to X2'; kit k-2: 2.1 is beside \"The whole | sentence.\", which stands in 1"),
+        ("X2", "X1", "X1: twice; section 2.1: no rows 'X1 to X2'; kit k-2: 2.1 is beside \"The whole | sentence.\", which stands in 1; script k-3: 2.1 is beside \"whole\", which stands in 1"),
         ("The first part of it.", "", "X1: no sentence"),
         ("`c/Def`", "", "X1: no definition"),
         ("`c/Def`", "– (1)", "X1: no definition"),
@@ -527,6 +548,7 @@ fn each_fault_of_a_row_is_found() {
         ("`c/Def`", "`c/law`", "X1: no definition 'c/law' is there"),
         ("`c/law`", "`c/Def`", "X1: no theorem 'c/Def' is there"),
         ("`k-1`", "`k-1`, `l*`", "X1: no kit is 'l*'"),
+        ("`k-1`", "`k-1`, `script:l*`", "X1: no script is 'l*'"),
         ("`c/*`", "`c/*`, `d/*`", "X1: no edit is 'd/*'"),
         ("– (1)", "–", "X2: no edit, and no note says why; note (1): no dash has it"),
         ("– (1)", "– (2)", "X2: no edit, and no note says why; note (1): no dash has it"),
@@ -543,6 +565,13 @@ fn each_fault_of_a_row_is_found() {
 fn each_fault_of_a_kit_or_an_edit_is_found() {
     for (old, new, fault) in [
         ("`k-*`", "`k-1`", "kit k-2: no row cites it"),
+        (", `script:k-3`", "", "script k-3: no row cites it"),
+        ("`script:k-3`", "`script:k-*`", ""),
+        (
+            "`script:k-3`",
+            "`*k-3`",
+            "X2: no kit is '*k-3'; script k-3: no row cites it",
+        ),
         ("`c/*`", "`c/t*`", "edit c/one: no row cites it"),
         (
             "first part",
@@ -552,7 +581,7 @@ fn each_fault_of_a_kit_or_an_edit_is_found() {
         (
             "whole",
             "half",
-            "kit k-2: no row that cites it has \"The whole | sentence.\"",
+            "kit k-2: no row that cites it has \"The whole | sentence.\"; script k-3: no row that cites it has \"whole\"",
         ),
     ] {
         assert_eq!(found(old, new), fault, "{old} to {new}");

@@ -2,9 +2,10 @@
 
 mod common;
 use common::beside;
-use model::channel::image::Lent;
+use model::channel::image::{word, Lent};
 use model::list::Refusal;
 use model::script::{self, Board, Call, Cycle, Model, Script};
+use model::MachineData;
 use std::fs;
 
 fn scripts() -> Vec<Script> {
@@ -63,7 +64,6 @@ fn the_page_s_script_runs() {
     assert_eq!(told::<Model>(&[script]), [""; 0]);
 }
 
-/// The calls by their words and numbers, in the page and in the example.
 #[test]
 fn the_paper_s_function_is_the_example_s() {
     let paper = fs::read_to_string(beside("docs/SUPPLIER.md")).expect("the paper");
@@ -77,6 +77,19 @@ fn the_paper_s_function_is_the_example_s() {
 
 /// Wrong boards by their numbers; 0 is right.
 struct Wrong<const N: u32>;
+
+/// Changes a word of a channel's state.
+fn set(channel: &mut Lent, word: usize, value: u32) {
+    let mut state = *channel.state();
+    state[word] = value;
+    *channel = Lent::of(*channel.data(), state);
+}
+
+/// A new channel with the same data.
+fn renew(channel: &mut Lent) {
+    let new = Lent::fresh(MachineData::lowest());
+    *channel = Lent::of(*channel.data(), *new.state());
+}
 
 impl<const N: u32> Board for Wrong<N> {
     type Channel = Lent;
@@ -100,9 +113,10 @@ impl<const N: u32> Board for Wrong<N> {
     fn report(channel: &Lent, position: i32, inputs: u32) -> [u32; 3] {
         let mut report = Model::report(channel, position, inputs);
         match N {
+            // Datum 0, the inputs that are used, a position of 28 bits.
             3 => report[2] = channel.data()[0] as u32,
             4 => report[1] &= 0xf03c_101b,
-            5 => report[0] = (report[0] << 4) as i32 as u32 >> 4,
+            5 => report[0] = ((report[0] << 4) as i32 >> 4) as u32,
             _ => (),
         }
         report
@@ -115,19 +129,26 @@ impl<const N: u32> Board for Wrong<N> {
         acknowledged: u32,
         report: &[u32; 3],
     ) -> Cycle {
-        let acknowledged = if N == 6 {
-            acknowledged & 1
-        } else {
-            acknowledged
-        };
         let before = channel.clone();
-        let mut cycle = Model::cycle(channel, position, inputs, acknowledged, report);
+        let (old, mut report) = (*before.state(), *report);
+        let far = (report[0] as i32).abs_diff(position) > i32::MAX as u32;
+        let acknowledged = match N {
+            // By bit 0.
+            6 => acknowledged & 1,
+            _ => acknowledged,
+        };
+        // A distance that 32 bits do not hold with a sign is none.
+        if N == 29 && far {
+            report[0] = position as u32;
+        }
+        let mut cycle = Model::cycle(channel, position, inputs, acknowledged, &report);
+        let unusable = cycle.codes[0] == 1;
         let stand = cycle.codes.iter().filter(|&&code| code != 0).count();
         match N {
             // The first cause alone.
             7 => cycle.codes[1..].fill(0),
             // None where the rank is 5 already.
-            8 if before.state()[13] == 3 => cycle.codes.fill(0),
+            8 if old[word::STOP] == 3 => cycle.codes.fill(0),
             // 13 is left out where the cycle clears.
             9 if acknowledged != 0 && cycle.word >> 24 == 0 => cycle.codes.fill(0),
             // A code twice.
@@ -136,6 +157,28 @@ impl<const N: u32> Board for Wrong<N> {
             11 => cycle.codes.rotate_right(1),
             // The last code has another's number.
             12 if stand > 1 => cycle.codes[stand - 1] += 1,
+            // F's count falls in unusable cycles; k does not rise in them.
+            30 if unusable => set(channel, word::F_COUNT, old[word::F_COUNT].saturating_sub(1)),
+            31 if unusable => set(channel, word::K, old[word::K]),
+            // A further difference sets F's count anew.
+            32 if old[word::F] == 1 && cycle.codes.contains(&10) => {
+                set(channel, word::F_COUNT, channel.data()[34] as u32)
+            }
+            // Cause 13 stands once.
+            33 if old[word::F] == 1 && old[word::F_COUNT] == 0 => {
+                let at = cycle.codes.iter().position(|&code| code == 13);
+                at.map(|at| cycle.codes[at..].rotate_left(1));
+                cycle.codes[12] = 0;
+            }
+            // Cams stay while their function is off.
+            34 if channel.data()[1] & 4 == 0 => set(channel, word::CAMS, old[word::CAMS]),
+            // SBH is effective as soon as it is selected.
+            35 if !unusable && inputs & 3 == 0 && old[word::EFFECTIVE] == 1 => {
+                set(channel, word::EFFECTIVE, 2);
+                set(channel, word::SBH_REFERENCE, position as u32);
+            }
+            // k stops at 50.
+            36 if old[word::K] == 50 => set(channel, word::K, 50),
             _ => (),
         }
         cycle
@@ -158,9 +201,17 @@ impl<const N: u32> Board for Wrong<N> {
     ) -> Result<usize, Refusal> {
         let before = (a.clone(), b.clone());
         let room = output.len();
+        match N {
+            // A log begins with new channels, or forgets the previous positions, or has one k for both.
+            37 => (renew(a), renew(b)),
+            38 => (set(a, word::HAS_PREVIOUS, 0), set(b, word::HAS_PREVIOUS, 0)),
+            39 => (set(b, word::K, a.state()[word::K]), ()),
+            _ => ((), ()),
+        };
         let answer = Model::log(a, b, words, output);
         let refusal = |number, place| Err(Refusal { number, place });
         match (N, answer) {
+            (37..=39, Err(_)) => (*a, *b) = before,
             // Cycles wanted, not words.
             (16, Err(Refusal { number: 7, place })) => return refusal(7, place / 3),
             // Words lacking.
@@ -203,6 +254,8 @@ impl<const N: u32> Board for Wrong<N> {
             (27, Ok(cycles)) if 3 * cycles + words.len() % 7 > room => {
                 return refusal(7, 3 * cycles + words.len() % 7)
             }
+            // A refused log is a cycle for k.
+            (40, Err(_)) => set(a, word::K, a.state()[word::K] + 1),
             // A's and B's words the other way about.
             (28, Ok(cycles)) => output[..3 * cycles]
                 .chunks_exact_mut(3)
@@ -213,12 +266,13 @@ impl<const N: u32> Board for Wrong<N> {
     }
 }
 
-/// Every wrong board from N on is told by some script: the names of those that are not.
+/// The wrong boards that no script tells.
 fn untold(scripts: &[Script]) -> Vec<u32> {
     macro_rules! of {
         ($($n:literal)*) => { [$(($n, told::<Wrong<$n>>(scripts).len())),*] };
     }
-    let told = of!(0 1 2 3 4 5 6 7 8 9 10 11 12 13 14 15 16 17 18 19 20 21 22 23 24 25 26 27 28);
+    let told = of!(0 1 2 3 4 5 6 7 8 9 10 11 12 13 14 15 16 17 18 19 20 21 22 23 24 25 26 27 28 29
+        30 31 32 33 34 35 36 37 38 39 40);
     assert_eq!(told[0], (0, 0));
     let untold = told[1..].iter().filter(|(_, scripts)| *scripts == 0);
     untold.map(|(board, _)| *board).collect()

@@ -482,40 +482,56 @@ mod on_a_board {
     use std::process::{Command, Output};
     use std::sync::LazyLock;
 
-    /// `scripts.c` over the archive.
-    static PROGRAM: LazyLock<PathBuf> = LazyLock::new(|| {
-        let program = Path::new(env!("CARGO_TARGET_TMPDIR")).join("scripts");
+    /// A file of the test's own.
+    fn own(file: &str) -> PathBuf {
+        Path::new(env!("CARGO_TARGET_TMPDIR")).join(file)
+    }
+
+    /// Compiles a source; what it is linked with stands behind it.
+    fn compile(source: &Path, arguments: &[&str], to: &Path) {
         let include = format!("-I{}", beside("include").display());
-        let mut compiler = Command::new("cc");
-        compiler.args([
+        let flags = [
             "-std=c11",
             "-Wall",
             "-Wextra",
             "-Wpedantic",
             "-Werror",
             "-O2",
-        ]);
-        compiler.arg(include).arg(beside("examples/scripts.c"));
-        // The logs may have an archive of their own.
-        compiler.args(option_env!("MONITOR_LOGS_ARCHIVE"));
+        ];
+        let mut compiler = Command::new("cc");
         compiler
-            .arg(env!("MONITOR_ARCHIVE"))
-            .arg("-o")
-            .arg(&program);
-        let Output { status, stderr, .. } = compiler.output().expect("the compiler");
-        let said = String::from_utf8_lossy(&stderr);
-        assert!(status.success() && said.is_empty(), "{said}");
+            .args(flags)
+            .arg(include)
+            .arg(source)
+            .args(arguments);
+        let answer = compiler.arg("-o").arg(to).output().expect("the compiler");
+        let said = String::from_utf8_lossy(&answer.stderr);
+        assert!(answer.status.success() && said.is_empty(), "{said}");
+    }
+
+    /// The archives; the logs may have one of their own.
+    fn archives() -> Vec<&'static str> {
+        let logs = option_env!("MONITOR_LOGS_ARCHIVE");
+        logs.into_iter().chain([env!("MONITOR_ARCHIVE")]).collect()
+    }
+
+    /// `scripts.c` over the archive.
+    static PROGRAM: LazyLock<PathBuf> = LazyLock::new(|| {
+        let program = own("scripts");
+        compile(&beside("examples/scripts.c"), &archives(), &program);
         program
     });
 
     /// What it prints for a plain form, and its exit status.
     fn printed(name: &str, plain: &str) -> (String, Option<i32>) {
-        let file = Path::new(env!("CARGO_TARGET_TMPDIR")).join(name);
+        printed_by(&PROGRAM, name, plain)
+    }
+
+    fn printed_by(program: &Path, name: &str, plain: &str) -> (String, Option<i32>) {
+        let file = own(name);
         fs::write(&file, plain).expect("the file");
-        let Output { status, stdout, .. } = Command::new(&*PROGRAM)
-            .arg(&file)
-            .output()
-            .expect("it runs");
+        let answer = Command::new(program).arg(&file).output().expect("it runs");
+        let Output { status, stdout, .. } = answer;
         (String::from_utf8_lossy(&stdout).into_owned(), status.code())
     }
 
@@ -574,5 +590,60 @@ mod on_a_board {
             assert_eq!(status, Some(1));
         }
         assert_eq!(printed("none", "").1, Some(1));
+    }
+
+    /// A board whose log run does something more, and returns what it should.
+    fn wrong(name: &str, more: &str) -> PathBuf {
+        let (source, object, program) = (
+            own(&format!("{name}.c")),
+            own(&format!("{name}.o")),
+            own(name),
+        );
+        let text = format!(
+            "#include \"axis_monitor.h\"
+uint32_t wrong_run_log(const int32_t *data_a, uint32_t *state_a, const int32_t *data_b, uint32_t *state_b, const uint32_t *words,
+                       size_t words_len, uint32_t *out, size_t out_len, size_t *at);
+uint32_t wrong_run_log(const int32_t *data_a, uint32_t *state_a, const int32_t *data_b, uint32_t *state_b, const uint32_t *words,
+                       size_t words_len, uint32_t *out, size_t out_len, size_t *at) {{
+    uint32_t refused = monitor_run_log(data_a, state_a, data_b, state_b, words, words_len, out, out_len, at);
+    {more}
+    return refused;
+}}
+"
+        );
+        fs::write(&source, text).expect("the source");
+        let arguments = ["-c", "-Dmonitor_run_log=wrong_run_log"];
+        compile(&beside("examples/scripts.c"), &arguments, &object);
+        let object = object.to_string_lossy();
+        compile(&source, &[&[&*object][..], &archives()].concat(), &program);
+        program
+    }
+
+    #[test]
+    fn a_wrong_board_is_told() {
+        let text = format!("{LISTS}log X Y, output 2 -> refused 7 3\n  both 0 off\nlog X Y, output 5 -> ran 1\n  both 0 off -> 00000080 00000080 1\n");
+        let plain = script::plain(&[script_of(&text)]).expect("the model agrees");
+        for (name, more, told) in [
+            ("right-board", "(void)state_b;", "1 of 1 scripts agree\n"),
+            (
+                "channel-board",
+                "if (refused != 0) state_b[1]++;",
+                "own: line 5, channel 1 is not as it was\n0 of 1 scripts agree\n",
+            ),
+            (
+                "output-board",
+                "if (refused == 0) out[out_len - 1] = 0;",
+                "own: line 7, expected 0 1 80 80 1 a5a5a5a5 a5a5a5a5, found 0 1 80 80 1 a5a5a5a5 0\n0 of 1 scripts agree\n",
+            ),
+            (
+                "refused-board",
+                "if (refused == 7) out[0] = 0;",
+                "own: line 5, expected 7 3 a5a5a5a5 a5a5a5a5, found 7 3 0 a5a5a5a5\n0 of 1 scripts agree\n",
+            ),
+        ] {
+            let program = wrong(name, more);
+            let (text, _) = printed_by(&program, &format!("{name}.plain"), &plain);
+            assert_eq!(text, told);
+        }
     }
 }

@@ -3,7 +3,8 @@
 //! A function of the model takes a reading. [`Paper`] never deviates and costs nothing;
 //! [`Deviant`] is wrong in one place, so that kits can be tried for whether they notice.
 //!
-//! Not among the deviations, since no kit can show them:
+//! Not among the deviations, since no kit can show them (what a call shows of them is tried by scripts, and stands as
+//! wrong boards in `tests/scripts.rs`):
 //! - F's count, the stop's count or the hold's reference changed in an unusable cycle: the rank
 //!   is 5 from there until a cycle clears, and that puts all of them off;
 //! - cause 13 standing only in the first cycle where the count is 0: the rank is 4 or 5 until

@@ -389,6 +389,10 @@ fn a_text_that_is_no_script_is_refused() {
             "line 2: these are no whole words",
         ),
         (
+            "list X -> refused 4 1\n0 = 26\nlike X X -> yes",
+            "line 4: no channel 'X' was made",
+        ),
+        (
             "report X 0 SG1 -> 0 SG1 datum 1",
             "line 2: no channel 'X' was made",
         ),

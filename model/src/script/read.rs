@@ -36,7 +36,7 @@ struct Block<'a> {
 #[derive(Default)]
 struct Reading {
     channels: Vec<String>,
-    /// The data of the last list of each channel.
+    /// The data of the last accepted list of each channel that has one.
     stated: BTreeMap<usize, Stated>,
     steps: Vec<Step>,
 }
@@ -170,7 +170,8 @@ impl Reading {
     fn channel(&self, tokens: &mut Tokens) -> Result<usize, String> {
         let name = next(tokens, "a channel's name")?;
         let found = self.channels.iter().position(|known| known == name);
-        found.ok_or(format!("no channel '{name}' was made"))
+        let made = found.filter(|of| self.stated.contains_key(of));
+        made.ok_or(format!("no channel '{name}' was made"))
     }
 
     /// The place of a channel, new or not.
@@ -209,7 +210,9 @@ impl Reading {
             let of = self.new_channel(name).map_err(here)?;
             let words = words.clone();
             self.push(block.call.number, Call::List { of, words }, answer.into());
-            self.stated.insert(of, stated);
+            if answer[0] == 0 {
+                self.stated.insert(of, stated);
+            }
         }
         Ok(())
     }
@@ -453,7 +456,8 @@ fn log_words(block: &Block) -> Result<(Vec<u32>, Vec<u32>), Fault> {
         };
         let three = three_words(answer).map_err(|reason| fault(line.number, reason))?;
         let mut said = line.said.split_whitespace().skip_while(|&t| t != "times");
-        let times = said.nth(1).and_then(|times| times.parse().ok());
+        let times = said.nth(1).map(|times| times.replace('_', ""));
+        let times = times.and_then(|times| times.parse().ok());
         for _ in 0..times.unwrap_or(1) {
             output.extend(three);
         }

@@ -513,16 +513,12 @@ mod on_a_board {
         assert!(answer.status.success() && said.is_empty(), "{said}");
     }
 
-    /// The archives; the logs may have one of their own.
-    fn archives() -> Vec<&'static str> {
-        let logs = option_env!("MONITOR_LOGS_ARCHIVE");
-        logs.into_iter().chain([env!("MONITOR_ARCHIVE")]).collect()
-    }
+    const ARCHIVES: [&str; 2] = [env!("MONITOR_LOGS_ARCHIVE"), env!("MONITOR_ARCHIVE")];
 
-    /// `scripts.c` over the archive.
+    /// `scripts.c` over the archives.
     static PROGRAM: LazyLock<PathBuf> = LazyLock::new(|| {
         let program = own("scripts");
-        compile(&beside("examples/scripts.c"), &archives(), &program);
+        compile(&beside("examples/scripts.c"), &ARCHIVES, &program);
         program
     });
 
@@ -619,7 +615,7 @@ uint32_t wrong_run_log(const int32_t *data_a, uint32_t *state_a, const int32_t *
         let arguments = ["-c", "-Dmonitor_run_log=wrong_run_log"];
         compile(&beside("examples/scripts.c"), &arguments, &object);
         let object = object.to_string_lossy();
-        compile(&source, &[&[&*object][..], &archives()].concat(), &program);
+        compile(&source, &[&[&*object][..], &ARCHIVES].concat(), &program);
         program
     }
 

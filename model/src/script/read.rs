@@ -126,35 +126,25 @@ impl Reading {
         let tokens: Vec<&str> = said.split_whitespace().collect();
         let mut tokens = tokens.into_iter().peekable();
         let first = tokens.next().unwrap_or("");
-        let wanted = || answer.ok_or(here("-> and the answer are missing".into()));
         match first {
             "list" | "lists" => {
                 block.no_body(true)?;
                 let (names, options) = names_of_list(first, &mut tokens).map_err(here)?;
-                let answer = accepted("accepted", wanted()?).map_err(here)?;
+                let answer = accepted("accepted", answer).map_err(here)?;
                 return self.list(block, &names, &options, &answer);
             }
             "log" => {
                 let (a, b, room) = self.log(&mut tokens).map_err(here)?;
                 let (words, output) = log_words(block)?;
-                let mut answer = accepted("ran", wanted()?).map_err(here)?;
+                let mut answer = accepted("ran", answer).map_err(here)?;
                 whole_output(&mut answer, &output, room).map_err(here)?;
                 let call = Call::Log { a, b, words, room };
                 self.push(number, call, answer);
             }
             _ => {
                 block.no_body(false)?;
-                let (call, times) = self.call(first, &mut tokens).map_err(here)?;
-                let answer = match call {
-                    Call::Copy { .. } => none(answer),
-                    Call::Like { .. } => like_answer(wanted()?),
-                    Call::Report { .. } => report_answer(wanted()?),
-                    Call::Cycle { .. } => cycle_answer(wanted()?),
-                    Call::Device { .. } => device_answer(wanted()?),
-                    Call::List { .. } | Call::Log { .. } => Ok(vec![]),
-                };
-                let answer = answer.map_err(here)?;
-                for _ in 0..times {
+                let (call, answer) = self.call(first, &mut tokens, answer).map_err(here)?;
+                for _ in 0..times(&mut tokens).map_err(here)? {
                     self.push(number, call.clone(), answer.clone());
                 }
             }
@@ -229,23 +219,30 @@ impl Reading {
         Ok((a, b, room as usize))
     }
 
-    /// A call that is one line, and how often it is made.
-    fn call(&mut self, first: &str, tokens: &mut Tokens) -> Result<(Call, i64), String> {
-        let call = match first {
+    /// A call that is one line, and its answer.
+    fn call(
+        &mut self,
+        first: &str,
+        tokens: &mut Tokens,
+        answer: Option<&str>,
+    ) -> Result<(Call, Vec<u32>), String> {
+        match first {
             "report" => {
                 let of = self.channel(tokens)?;
                 let (position, inputs) = side(tokens)?;
-                Call::Report {
+                let call = Call::Report {
                     of,
                     position,
                     inputs,
-                }
+                };
+                Ok((call, report_answer(wanted(answer)?)?))
             }
-            "cycle" => self.cycle(tokens)?,
+            "cycle" => Ok((self.cycle(tokens)?, cycle_answer(wanted(answer)?)?)),
             "device" => {
                 let a = word(next(tokens, "a channel word")?)?;
                 let b = word(next(tokens, "a channel word")?)?;
-                Call::Device { a, b }
+                let answer = device_word(wanted(answer)?)?;
+                Ok((Call::Device { a, b }, vec![answer]))
             }
             "copy" => {
                 let from = self.channel(tokens)?;
@@ -254,18 +251,21 @@ impl Reading {
                 if let Some(&stated) = self.stated.get(&from) {
                     self.stated.insert(to, stated);
                 }
-                Call::Copy { from, to }
+                match answer {
+                    None => Ok((Call::Copy { from, to }, vec![])),
+                    Some(_) => Err("this call has no answer".into()),
+                }
             }
             _ => {
                 let (one, other) = (self.channel(tokens)?, self.channel(tokens)?);
-                Call::Like { one, other }
+                let answer = match wanted(answer)? {
+                    "yes" => 1,
+                    "no" => 0,
+                    text => return Err(format!("'{text}' is not yes or no")),
+                };
+                Ok((Call::Like { one, other }, vec![answer]))
             }
-        };
-        let times = match tokens.next_if_eq(&"times") {
-            None => 1,
-            Some(_) => integer(next(tokens, "how often")?, 1, MOST_TIMES, "how often")?,
-        };
-        Ok((call, times))
+        }
     }
 
     /// `X 401 SG1 ack, report of Y`, `X 401 SG1, report 401 SG1 datum 12`
@@ -363,23 +363,21 @@ fn end(tokens: &mut Tokens) -> Result<(), String> {
     }
 }
 
-fn none(said: Option<&str>) -> Result<Vec<u32>, String> {
-    match said {
-        None => Ok(vec![]),
-        Some(_) => Err("this call has no answer".into()),
+/// `times 10`, else once.
+fn times(tokens: &mut Tokens) -> Result<i64, String> {
+    match tokens.next_if_eq(&"times") {
+        None => Ok(1),
+        Some(_) => integer(next(tokens, "how often")?, 1, MOST_TIMES, "how often"),
     }
 }
 
-fn like_answer(text: &str) -> Result<Vec<u32>, String> {
-    match text {
-        "yes" => Ok(vec![1]),
-        "no" => Ok(vec![0]),
-        _ => Err(format!("'{text}' is not yes or no")),
-    }
+fn wanted(answer: Option<&str>) -> Result<&str, String> {
+    answer.ok_or("-> and the answer are missing".into())
 }
 
 /// `accepted 154` or `ran 2`; `refused 4 10`.
-fn accepted(word: &str, text: &str) -> Result<Vec<u32>, String> {
+fn accepted(word: &str, answer: Option<&str>) -> Result<Vec<u32>, String> {
+    let text = wanted(answer)?;
     let wrong = || format!("'{text}' is not {word} N or refused NUMBER PLACE");
     let number = |text: &str| integer(text, 0, u32::MAX.into(), "a number").map(|n| n as u32);
     let tokens = tokens(text);
@@ -426,21 +424,17 @@ fn channel_word(text: &str) -> Result<u32, String> {
         .ok_or(format!("'{text}' is no word of 8 hexadecimal digits"))
 }
 
-fn device_answer(text: &str) -> Result<Vec<u32>, String> {
+/// A device word as the bench lists it.
+fn device_word(text: &str) -> Result<u32, String> {
     let word = u32::from_str_radix(text, 16).ok();
-    let word = word.ok_or(format!("'{text}' is no device word"))?;
-    Ok(vec![word])
+    word.ok_or(format!("'{text}' is no device word"))
 }
 
 /// `03000081 03000081 7`: a cycle's words of the output.
 fn three_words(text: &str) -> Result<[u32; 3], String> {
     let tokens = tokens(text);
     match &tokens[..] {
-        [a, b, device] => Ok([
-            channel_word(a)?,
-            channel_word(b)?,
-            device_answer(device)?[0],
-        ]),
+        [a, b, device] => Ok([channel_word(a)?, channel_word(b)?, device_word(device)?]),
         _ => Err(format!("'{text}' is not A's word, B's word, device word")),
     }
 }

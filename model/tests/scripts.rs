@@ -167,8 +167,10 @@ impl<const N: u32> Board for Wrong<N> {
             // Cause 13 stands once.
             33 if old[word::F] == 1 && old[word::F_COUNT] == 0 => {
                 let at = cycle.codes.iter().position(|&code| code == 13);
-                at.map(|at| cycle.codes[at..].rotate_left(1));
-                cycle.codes[12] = 0;
+                if let Some(at) = at {
+                    cycle.codes.copy_within(at + 1.., at);
+                    cycle.codes[12] = 0;
+                }
             }
             // Cams stay while their function is off.
             34 if channel.data()[1] & 4 == 0 => set(channel, word::CAMS, old[word::CAMS]),

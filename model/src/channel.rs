@@ -271,7 +271,8 @@ impl Channel {
     #[inline]
     fn above_cam<R: Reading>(&self, r: R, edge: i32, position: i32) -> bool {
         let tolerance = self.data.get(number::CAM_TOLERANCE);
-        paper!(r, position > edge + tolerance,
+        // Not added to the edge, which may lie anywhere in a channel of any content.
+        paper!(r, position - tolerance > edge,
             CamAtUpper => position >= edge + tolerance,
             CamToleranceBelow => position > edge)
     }

@@ -1,14 +1,14 @@
 //! A channel as the library lends it: its data, and its state as words.
 //!
 //! Every content of the two arrays stands for some channel. Where it is none that a list and its
-//! cycles lead to, data are read at the nearer end of their range, reported and compared by
-//! cause 12 as they stand, and k follows the count of the list.
+//! cycles lead to, data are read at the nearer end of their range, but cams as they stand; they
+//! are reported and compared by cause 12 as they stand, and k follows the count of the list.
 
 use super::{Channel, Cycle, Report};
 use crate::causes::{Run, F};
 use crate::list::Refusal;
 use crate::log::{self, Record};
-use crate::machine_data::{range, MachineData, COUNT};
+use crate::machine_data::{number, range, MachineData, COUNT};
 use crate::selection::{Selection, Selections};
 use crate::stop::{Rank, Stop};
 
@@ -55,6 +55,9 @@ pub mod word {
     /// The cam signals as bits.
     pub const CAMS: usize = 16;
 }
+
+/// The data of the cams' edges.
+const CAMS: std::ops::Range<usize> = number::CAM..number::CAM + 8;
 
 const BRAKING: u32 = 1;
 const HELD: u32 = 2;
@@ -248,6 +251,9 @@ fn written(state: &Image) -> Image {
 fn channel_of(data: &[i32; COUNT], state: &Image) -> Channel {
     let state = written(state);
     let within = |number: usize| {
+        if CAMS.contains(&number) {
+            return data[number];
+        }
         let (low, high) = range(number);
         data[number].clamp(low, high)
     };

@@ -160,6 +160,7 @@ impl Channel {
         paper!(r, (),
             UnusableAcknowledged => if acknowledged { self.stop.clear(r) },
             UnusableFOff => self.f = F::OFF,
+            UnusableDatumSetsF => if self.data.get(self.k) != report.datum { self.f.on = true },
             UnusableRunEnds => self.run = Run(0),
             UnusableRunCounts => if inputs != report.inputs { self.run.0 += 1 },
             UnusableCamsOff => self.cams = [false; 8],
@@ -239,8 +240,10 @@ impl Channel {
                 ClearSetsK => self.k = COUNT);
         } else {
             let strongest = causes.strongest();
+            let d = paper!(r, moment.d,
+                ShutdownNeedsPrevious => self.previous.map_or(i32::MAX.into(), |_| moment.d));
             self.stop
-                .advance(r, &self.data, strongest, moment.position, moment.d);
+                .advance(r, &self.data, strongest, moment.position, d);
         }
     }
 
@@ -272,7 +275,7 @@ impl Channel {
     fn above_cam<R: Reading>(&self, r: R, edge: i32, position: i32) -> bool {
         let tolerance = self.data.get(number::CAM_TOLERANCE);
         // Not added to the edge, which may lie anywhere in a channel of any content.
-        paper!(r, position - tolerance > edge,
+        paper!(r, position.saturating_sub(tolerance) > edge,
             CamAtUpper => position >= edge + tolerance,
             CamToleranceBelow => position > edge)
     }

@@ -268,6 +268,7 @@ deviations! {
     UnusableRunEnds: "an unusable cycle ends the run of differing inputs", "counts, runs, F, selections, references and cams stay";
     UnusableRunCounts: "an unusable cycle counts in the run of differing inputs", "11 input words differ in more than datum 28 usable cycles running";
     UnusableFOff: "an unusable cycle puts F off", "counts, runs, F, selections, references and cams stay";
+    UnusableDatumSetsF: "a datum that differs in an unusable cycle sets F", "steps 2 to 5 are skipped";
     UnusableSelectionLost: "nothing is effective from an unusable cycle on", "counts, runs, F, selections, references and cams stay";
     UnusableNextIsFirst: "the first selection after an unusable cycle is effective at once", "counts, runs, F, selections, references and cams stay";
     UnusableReferenceAnew: "the SBH reference is taken anew after an unusable cycle", "counts, runs, F, selections, references and cams stay";
@@ -328,7 +329,9 @@ deviations! {
     SgWithoutT: "cause 3 takes T as 12", "3 SG, |d| × 6000 > limit × percent × T";
     SgOnePercentMore: "cause 3 takes the percent one more", "3 SG, |d| × 6000 > limit × percent × T";
     SgBySelected: "cause 3 goes by the present selection", "4. Causes (2 and 3 by the effective selection)";
+    SgNotWhileSbhWaits: "cause 3 is not watched while SBH is selected and waits", "4. Causes (2 and 3 by the effective selection)";
     SgRankOfSg1: "cause 3 has the stop of SG1 for every SG", "3 SG, .. rank by datum";
+    SgRankOfSelected: "cause 3 has the stop of the SG number in the present inputs", "4. Causes (2 and 3 by the effective selection)";
     SgRankC: "cause 3 always has rank 3", "3 SG, .. rank by datum";
     SeAtMinus: "cause 4 stands at the minus end itself", "position below its minus or above its plus";
     SeAtPlus: "cause 4 stands at the plus end itself", "position below its minus or above its plus";
@@ -365,6 +368,9 @@ deviations! {
     InputsIgnored: "cause 11 never stands", "11 input words differ in more than datum 28 usable cycles running";
     DatumIgnored: "cause 12 never stands", "12 datum k differs";
     DatumOneOffAllowed: "cause 12 lets a difference of one pass", "12 datum k differs";
+    DatumLowerHalf: "cause 12 compares the lower 16 bits only", "12 datum k differs";
+    DatumWithoutSign: "cause 12 compares magnitudes", "12 datum k differs";
+    DatumOfUnusableLeftOut: "cause 12 leaves out an unusable report", "12 datum k differs (the other's unusable report: compared as it is)";
     OtherUnusableLeftOut: "causes 10 and 11 leave out an unusable report", "10 position differs from the report (the other's unusable report: compared as it is)";
     FTimeSetAnew: "each of 10, 11, 12 sets the count from F to B anew", "10, 11, 12 set F and, if F is new, its count to datum 34";
     FTimeOneMore: "the time from F to B is one cycle longer", "its count to datum 34; the count falls in later usable cycles";
@@ -421,6 +427,7 @@ deviations! {
     ShutdownAtBound: "B becomes A at the shutdown speed itself", "B also becomes A where |d| × 60 < datum 33 × T.";
     ShutdownIgnored: "the shutdown speed is ignored", "B also becomes A where |d| × 60 < datum 33 × T.";
     ShutdownNotOnEntry: "the shutdown speed is looked at only after the entry cycle", "B also becomes A where |d| × 60 < datum 33 × T. (the entry cycle too)";
+    ShutdownNeedsPrevious: "B stays B without a previous position", "2. d = position less previous position, 0 if there is none.";
     ShutdownAlsoC: "C becomes A below the shutdown speed too", "B also becomes A where |d| × 60 < datum 33 × T.";
     ShutdownSigned: "the shutdown speed is compared with d, not |d|", "B also becomes A where |d| × 60 < datum 33 × T.";
     ShutdownWithoutT: "the shutdown speed takes T as 12", "B also becomes A where |d| × 60 < datum 33 × T.";

@@ -170,7 +170,7 @@ pub fn range_as<R: Reading>(r: R, number: usize) -> (i32, i32) {
     )
 }
 
-/// The deviations of a row: its low end wider and narrower, its high end wider and narrower.
+/// Of deviations only: those of a row, its low end wider and narrower, its high end wider and narrower.
 #[rustfmt::skip]
 const fn one_off(number: usize) -> [Deviation; 4] {
     match number {

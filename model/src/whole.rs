@@ -19,6 +19,7 @@ enum Parts {
 
 /// "a binary32 or a binary64 (IEEE 754)": the whole number a binary32 of these bits stands for.
 pub fn of_binary32<R: Reading>(r: R, bits: u32) -> Option<i32> {
+    // Of deviations only.
     let subnormal = bits & 0x7f80_0000 == 0;
     stands_for(r, parts(u64::from(bits), 8, 23), subnormal)
 }
@@ -26,6 +27,7 @@ pub fn of_binary32<R: Reading>(r: R, bits: u32) -> Option<i32> {
 /// "a binary32 or a binary64 (IEEE 754)": the whole number a binary64 of these bits stands for.
 pub fn of_binary64<R: Reading>(r: R, bits: u64) -> Option<i32> {
     paper!(r, {
+        // Of deviations only.
         let subnormal = bits & 0x7ff0_0000_0000_0000 == 0;
         stands_for(r, parts(bits, 11, 52), subnormal)
     },

@@ -233,8 +233,10 @@ fn other_data(random: &mut Xorshift, data_a: &[i32; COUNT]) -> [i32; COUNT] {
             _ => random.pick(&[0, 1, 49, 50]),
         };
         let (low, high) = range(number);
-        let near = data_b[number] + random.pick(&[-2, -1, 1, 1, 2]);
-        data_b[number] = near.clamp(low, high);
+        let datum = data_b[number];
+        // One or two beside it, in the upper half alone, or of the other sign.
+        let by = random.pick(&[-2, -1, 1, 1, 2, 1 << 16, -(1 << 16), -2 * datum]);
+        data_b[number] = (datum + by).clamp(low, high);
     }
     order_se(&mut data_b);
     data_b

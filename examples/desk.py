@@ -15,6 +15,8 @@ Data, State, Report, Codes = c_int32 * 51, c_uint32 * 17, c_uint32 * 3, c_uint8 
 
 def main(library, kit, cycles=None):
     monitor = CDLL(library)
+    if monitor.monitor_interface() != 1:
+        sys.exit("desk: the library has another interface")
     monitor.monitor_report.argtypes = [Data, State, c_int32, c_uint32, Report]
     monitor.monitor_cycle.argtypes = [Data, State, c_int32, c_uint32, c_uint32, Report, Codes]
     monitor.monitor_cycle.restype = c_uint32

@@ -16,6 +16,7 @@
 #define MONITOR_TOLD 3    /* numbers that tell a kit's refusal */
 #define MONITOR_LOG 16384 /* most words of a log */
 #define MONITOR_KIT 65536 /* most bytes of a kit */
+#define MONITOR_TEXT 74880 /* room for any kit's text */
 
 /* A channel as the caller keeps it. Every content stands for some channel; only monitor_read_list makes a fresh one. */
 typedef struct monitor_channel {
@@ -111,7 +112,7 @@ typedef struct monitor_channel {
 #define MONITOR_CAUSE_DATUM 12    /* datum k differs */
 #define MONITOR_CAUSE_F 13        /* F's time is over */
 
-/* Answers of monitor_read_list and monitor_run_log. */
+/* Answers of monitor_read_list and monitor_run_log, and told[0] of monitor_run_kit. */
 #define MONITOR_ACCEPTED 0       /* accepted */
 #define MONITOR_REFUSED_WORD 1   /* list word missing, of wrong kind, number or bits */
 #define MONITOR_REFUSED_OPEN 2   /* datum open */
@@ -130,7 +131,9 @@ extern "C" {
 #define MONITOR_HOLDS(fact) _Static_assert(fact, #fact)
 #endif
 
+#ifndef MONITOR_OWN_BOARD /* a fact of the archives, not of a board that is tried with this header */
 MONITOR_HOLDS(sizeof(size_t) == 8);
+#endif
 MONITOR_HOLDS(sizeof(monitor_channel) == 272);
 MONITOR_HOLDS(offsetof(monitor_channel, state) == 204);
 
@@ -163,7 +166,8 @@ uint32_t monitor_run_log(const int32_t data_a[MONITOR_DATA], uint32_t state_a[MO
 /* Lists a kit's bytes as the bench does: the length of the text, which stands at the output's front if there is room for all of it. */
 size_t monitor_list_kit(const uint8_t *kit, size_t kit_len, uint8_t *out, size_t out_len);
 
-/* Runs a kit's words: the cycles, 3 words each, and told 0, 0, 0; or 0, and told the refusal's number, place and letter. */
+/* Runs a kit's words: the cycles, 3 words each, and told 0, 0, 0; or 0, and told the refusal's number, its place and
+   the letter of its part: 'A', 'B' or 'L'. */
 size_t monitor_run_kit(const uint32_t *words, size_t words_len, uint32_t *out, size_t out_len, uint64_t told[MONITOR_TOLD]);
 
 #ifdef __cplusplus

@@ -1,6 +1,6 @@
 // The monitor as a library for a board's program in another language. The caller owns all memory: a channel is its data and
 // its state as two arrays, and every content of them stands for some channel. Logs and kits are a library of their own: in
-// one with them, the code of a cycle would stand apart from both of its callers, and each would run at half the speed.
+// one with them, the code of a cycle would stand apart from both of its callers, which then run at less than half the speed.
 ghost use mathlib.Core.Path.{_≡_};
 ghost use Rattle.device.specs.Device.{deviceOf};
 ghost use Rattle.axis_monitor.specs.Crossing.{interfaceNumber, reportWords, reportFrom, givenFrom};
@@ -21,7 +21,7 @@ pub type ReportWords = [u32; REPORT];
 
 pub type Codes = [u8; CODES];
 
-// The number of this interface: it rises where a function or an array changes.
+// The number of this interface: it rises where a function, an array or the meaning of a word changes.
 #[no_mangle]
 pub extern "C" fn monitor_interface() -> u32
     ensures { λ r. ⌜ r ≡ interfaceNumber ⌝ }

@@ -39,7 +39,7 @@ stop-back (Braking rank left) h = simp (number-rankFrom rank)
 stop-back (Held rank reference) h = simp (number-rankFrom rank, signed-back reference h)
 stop-back Cancelled h = refl
 
--- "a channel that goes out and comes back is the same channel": its state, and the count of its list
+-- a channel that goes out and comes back is the same channel: its state, and the count of its list
 pub comes-back : (count : ℕ) (s : State) → Fits s → stateFrom (stateWords count s) ≡ s
 unfolding stateFrom stateWords
 comes-back count s h = λ i.

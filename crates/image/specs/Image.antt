@@ -79,6 +79,8 @@ listFrom values w = lent values (countFrom w)
 abbrev pub channelFrom : List ℤ → List ℕ → Channel
 channelFrom values w = record { list = listFrom values w; state = stateFrom w }
 
+-- ---- of the laws: what they ask of a state
+
 -- the numbers of a state fit their types: those that are not kept as they stand, but as a byte or in two's complement
 pub record Fits (s : State) : Type 0 where
   pub k : s .k < 256

@@ -1,6 +1,6 @@
 // The monitor as a library for a board's program in another language. The caller owns all memory: a channel is its data and
 // its state as two arrays, and every content of them stands for some channel. Logs and kits are a library of their own: in
-// one with them, the code of a cycle would stand apart from both of its callers, which then run at less than half the speed.
+// one with them, the code of a cycle would stand apart from both of its callers, and a log would run at less than half the speed.
 ghost use mathlib.Core.Path.{_≡_};
 ghost use Rattle.device.specs.Device.{deviceOf};
 ghost use Rattle.axis_monitor.specs.Crossing.{interfaceNumber, reportWords, reportFrom, givenFrom};

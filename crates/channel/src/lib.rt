@@ -10,7 +10,6 @@ use distance::Previous;
 use judge::Findings;
 use machine_data::MachineData;
 use machine_data::Values;
-use machine_data::numbers;
 use state::Given;
 use state::Kept;
 use state::State;
@@ -64,8 +63,7 @@ fn usable(values: &Values, count: usize, state: State, given: Given, findings: F
     let summary = findings.summary;
     let strongest = summary.strongest;
     let clears = clears(given, summary);
-    let slow = speed::slower(values, findings.moved, numbers::SHUTDOWN_SPEED);
-    let after = stop.next(values, clears, strongest, slow, reading);
+    let after = stop.next(values, clears, strongest, findings.moved, reading);
     State {
         k: report::next_k(count, state.k),
         kept: Kept {
@@ -109,7 +107,7 @@ fn found(values: &Values, count: usize, state: State, given: Given, findings: Fi
     ensures { λ r. ⌜ r ≡ advancedBy (lent (now (values .entry)) count) state given findings ⌝ }
 {
     let after = usable(values, count, state, given, findings);
-    let below_nx = speed::slower(values, findings.moved, numbers::NX);
+    let below_nx = channel_word::below_nx(values, findings.moved);
     Advanced {
         state: after,
         word: word(values, after, below_nx),

@@ -6,6 +6,7 @@ use lib.IntN.{ℤ}
 use lib.Dec.{eqb}
 use Rattle.bits.specs.Bits.{flag}
 use Rattle.machine_data.specs.Data.{functionOf}
+use Rattle.speed.specs.Speed.{slower}
 use Rattle.selection.specs.declared.Selection.{Selection}
 use Rattle.selection.specs.declared.Selection.the-variants.{Nothing, Sg, Sbh}
 use Rattle.stop.specs.declared.Stop.{Stop}
@@ -52,8 +53,9 @@ pub record Parts (effective cancelled sg slow rank held fault : ℕ) : Type 0 wh
 abbrev pub shownCams : List ℤ → ℕ → ℕ
 shownCams d cams = cond (functionOf d 2) (cams % 256) 0
 
-abbrev pub shownSlow : List ℤ → Bool → Bool
-shownSlow d slow = functionOf d 3 && slow
+-- "n<nx: |d| × 60 < datum 25 × T", while its function is on
+abbrev pub belowNx : List ℤ → ℕ → Bool
+belowNx d moved = functionOf d 3 && slower d moved 25
 
 -- the word of an effective selection, a stop, F, cams and n<nx
 unfoldable pub wordBy : List ℤ → Selection → Stop → Bool → ℕ → Bool → ℕ
@@ -63,7 +65,7 @@ wordBy d effective stop fault cams slow =
     (flag (eqb (rankNumber (rankOf stop)) 5))
     (shownCams d cams)
     (shownSg effective)
-    (flag (shownSlow d slow))
+    (flag slow)
     (rankNumber (rankOf stop))
     (flag (isHeld stop))
     (flag fault)

@@ -1,9 +1,10 @@
 // The channel word.
 ghost use mathlib.Core.Path.{_≡_};
 ghost use Rattle.bits.specs.Bits.{flag};
-ghost use Rattle.channel_word.specs.Word.{isEffective, shownSg, isHeld, shownCams, shownSlow, placed, Parts, wordBy};
+ghost use Rattle.channel_word.specs.Word.{isEffective, shownSg, isHeld, shownCams, belowNx, placed, Parts, wordBy};
 use machine_data::Values;
 use machine_data::functions;
+use machine_data::numbers;
 use rank::Rank;
 use selection::Selection;
 use stop::Stop;
@@ -56,12 +57,12 @@ fn shown_cams(values: &Values, cams: u32) -> u8
     }
 }
 
-// n<nx, while its function is on.
-fn shown_slow(values: &Values, slow: bool) -> bool
-    ensures { λ r. ⌜ r ≡ shownSlow (now (values .entry)) slow ⌝ }
+// n<nx, while its function is on; else the speed is not looked at.
+pub fn below_nx(values: &Values, moved: u32) -> bool
+    ensures { λ r. ⌜ r ≡ belowNx (now (values .entry)) moved ⌝ }
 {
     if machine_data::function(values, functions::NX) {
-        slow
+        speed::slower(values, moved, numbers::NX)
     } else {
         false
     }
@@ -109,7 +110,7 @@ pub fn channel_word(
         cancelled: flag(rank == Rank::NUMBER_A),
         cams: shown_cams(values, cams),
         sg: shown_sg(effective),
-        slow: flag(shown_slow(values, slow)),
+        slow: flag(slow),
         rank,
         held: flag(is_held(stop)),
         fault: flag(fault),

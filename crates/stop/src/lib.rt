@@ -1,9 +1,11 @@
 // The stop state of a channel.
 ghost use mathlib.Core.Path.{_≡_};
 ghost use Prim.Native.Nat.{_-_};
+ghost use Rattle.speed.specs.Speed.{slower};
 ghost use Rattle.stop.specs.Stop.{rankOf, countedOf, heldAt, brakedAt, atCount, settledOf, stopNext};
 use inputs::Reading;
 use machine_data::Values;
+use machine_data::numbers;
 use rank::Rank;
 
 pub enum Stop {
@@ -46,13 +48,13 @@ impl Stop {
         }
     }
 
-    // B becomes A at count 0, or where the axis is slow.
-    fn braked_at(n: u32, slow: bool) -> Stop
-        ensures { λ s. ⌜ s ≡ brakedAt slow n ⌝ }
+    // B becomes A at count 0, or where the axis is slower than the shutdown speed, which nothing else asks for.
+    fn braked_at(values: &Values, moved: u32, n: u32) -> Stop
+        ensures { λ s. ⌜ s ≡ brakedAt (slower (now (values .entry)) moved 33) n ⌝ }
     {
         if n == 0 {
             Stop::Cancelled
-        } else if slow {
+        } else if speed::slower(values, moved, numbers::SHUTDOWN_SPEED) {
             Stop::Cancelled
         } else {
             Stop::Braking(Rank::B, n)
@@ -60,49 +62,49 @@ impl Stop {
     }
 
     // A stop of rank r with n cycles left.
-    fn at_count(r: Rank, n: u32, slow: bool, reading: Reading) -> Stop
-        ensures { λ s. ⌜ s ≡ atCount slow (reading .position) r n ⌝ }
+    fn at_count(values: &Values, moved: u32, reading: Reading, r: Rank, n: u32) -> Stop
+        ensures { λ s. ⌜ s ≡ atCount (slower (now (values .entry)) moved 33) (reading .position) r n ⌝ }
     {
         match r {
             Rank::None => Stop::Free,
             Rank::E => Stop::held_at(r, n, reading),
             Rank::D => Stop::held_at(r, n, reading),
             Rank::C => Stop::held_at(r, n, reading),
-            Rank::B => Stop::braked_at(n, slow),
+            Rank::B => Stop::braked_at(values, moved, n),
             Rank::A => Stop::Cancelled,
         }
     }
 
     // No cause is entered: the count falls by one.
-    fn fallen(self, slow: bool, reading: Reading) -> Stop
-        ensures { λ s. ⌜ s ≡ settledOf slow (reading .position) (countedOf self) ⌝ }
+    fn fallen(self, values: &Values, moved: u32, reading: Reading) -> Stop
+        ensures { λ s. ⌜ s ≡ settledOf (slower (now (values .entry)) moved 33) (reading .position) (countedOf self) ⌝ }
     {
         match self {
             Stop::Free => self,
-            Stop::Braking(r, n) => Stop::at_count(r, less_one(n), slow, reading),
+            Stop::Braking(r, n) => Stop::at_count(values, moved, reading, r, less_one(n)),
             Stop::Held(_, _) => self,
             Stop::Cancelled => self,
         }
     }
 
-    // Step 5 of a cycle.
+    // Step 5 of a cycle, in which the axis moved so far.
     pub fn next(
         self,
         values: &Values,
         clears: bool,
         strongest: Rank,
-        slow: bool,
+        moved: u32,
         reading: Reading,
     ) -> Stop
-        ensures { λ s. ⌜ s ≡ stopNext (now (values .entry)) clears strongest slow (reading .position) self ⌝ }
+        ensures { λ s. ⌜ s ≡ stopNext (now (values .entry)) clears strongest (slower (now (values .entry)) moved 33) (reading .position) self ⌝ }
     {
         if clears {
             return Stop::Free;
         }
         if self.rank().number() < strongest.number() {
-            Stop::at_count(strongest, strongest.time(values), slow, reading)
+            Stop::at_count(values, moved, reading, strongest, strongest.time(values))
         } else {
-            self.fallen(slow, reading)
+            self.fallen(values, moved, reading)
         }
     }
 }

@@ -9,9 +9,6 @@ use Rattle.channel.proofs.usable.Tie as tie
 clears-requires : tie.Need-clears-requires
 clears-requires c κs = search needs
 
-slower-requires : tie.Need-slower-requires
-slower-requires c κs = search needs
-
 next-requires : tie.Need-next-requires
 next-requires c κs = search needs
 
@@ -25,15 +22,14 @@ cleared-requires : tie.Need-cleared-requires
 cleared-requires c κs = search needs
 
 returns : tie.Need-returns
-returns c = let fp : SFits w32 (c .before .before .before .before .before .before .before .before .before .before .before .before .args .given .reading .position) = search needs in
-    simp (toZ-ofZ fp) (simp (c .before .before .next2 .ensures, c .before .cleared .ensures, c .before .before .before .before .next .ensures, c .before .before .before .next-k .ensures, c .before .before .before .before .before .slower .ensures, c .before .before .before .before .before .before .clears .ensures))
+returns c = let fp : SFits w32 (c .before .before .before .before .before .before .before .before .before .before .before .args .given .reading .position) = search needs in
+    simp (toZ-ofZ fp) (simp (c .before .before .next2 .ensures, c .before .cleared .ensures, c .before .before .before .before .next .ensures, c .before .before .before .next-k .ensures, c .before .before .before .before .before .clears .ensures))
 
 pub usable-spec : {M : Type 1} → statement M
 usable-spec =
     tie.close
     (tie.spec
     clears-requires
-    slower-requires
     next-requires
     next-k-requires
     next-requires-2

@@ -11,7 +11,8 @@ use Rattle.state.specs.declared.State.{State}
 use Rattle.state.specs.declared.Given.{Given}
 use Rattle.judge.specs.Causes.{usableRows, rowsOf, findingsOf}
 use Rattle.channel.specs.Cycle.{strongestIn, clearsIn, next}
-use Rattle.channel.specs.Word.{word, advancedBy, advancedUnusable}
+use Rattle.advance.specs.After.{advancedBy, advancedUnusable}
+use Rattle.channel.specs.Word.{word}
 use Rattle.channel.specs.Ensures.{AdvanceEnsures}
 
 module _ (m : MachineData) (s : State) (g : Given) where

@@ -5,7 +5,7 @@ use Rattle.causes.specs.Codes.{Lists}
 use Rattle.state.specs.declared.State.{State}
 use Rattle.state.specs.declared.Given.{Given}
 use Rattle.judge.specs.Causes.{rowsOf}
-use Rattle.channel.specs.declared.Advanced.{Advanced}
+use Rattle.advance.specs.declared.Advanced.{Advanced}
 use Rattle.channel.specs.declared.Channel.{Channel}
 use Rattle.channel.specs.declared.Cycled.{Cycled}
 use Rattle.channel.specs.declared.Outcome.{Outcome}

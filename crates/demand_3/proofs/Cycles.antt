@@ -25,7 +25,8 @@ use Rattle.state.specs.declared.Given.{Given}
 use Rattle.judge.specs.Causes.{choiceIn, differencesIn, anyDiffers, faultIn, usableRows, rowsOf}
 use Rattle.state.specs.State.{freshState}
 use Rattle.report.specs.Report.{nextK}
-use Rattle.channel.specs.Cycle.{strongestIn, clearsIn, enteredIn, unusableNext, usableNext, next}
+use Rattle.advance.specs.After.{unusableNext}
+use Rattle.channel.specs.Cycle.{strongestIn, clearsIn, enteredIn, usableNext, next}
 use Rattle.demand_3.specs.Claims.{causeOf, sgLessOne}
 use Rattle.laws.proofs.Bools.{if-case, not-both, or-left}
 use Rattle.demand_2.proofs.Demand2.{no-weaker, cause-met}

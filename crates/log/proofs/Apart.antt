@@ -10,7 +10,8 @@ use Rattle.seven.specs.declared.CycleRecord.{CycleRecord}
 use Rattle.state.specs.declared.State.{State}
 use Rattle.state.specs.declared.Given.{Given}
 use Rattle.report.specs.Report.{nextK}
-use Rattle.channel.specs.Cycle.{clearsIn, strongestIn, usableNext, unusableNext, next}
+use Rattle.advance.specs.After.{unusableNext}
+use Rattle.channel.specs.Cycle.{clearsIn, strongestIn, usableNext, next}
 use Rattle.log.specs.Run.{givenA, givenB, Both, deviceCycle, lastOf, linesOf}
 use Rattle.log.specs.Alone.{lastAlone, wordsAlone}
 use Rattle.log.proofs.Thirds.{tripled}

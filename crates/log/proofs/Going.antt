@@ -11,7 +11,7 @@ use Rattle.laws.proofs.Never.{never}
 use Rattle.channel.specs.declared.Channel.{Channel}
 use Rattle.state.specs.declared.State.{State}
 use Rattle.state.specs.declared.Given.{Given}
-use Rattle.channel.specs.declared.Advanced.{Advanced}
+use Rattle.advance.specs.declared.Advanced.{Advanced}
 use Rattle.report.specs.Report.{nextK}
 use Rattle.channel.specs.Cycle.{next}
 use Rattle.channel.specs.Word.{word}

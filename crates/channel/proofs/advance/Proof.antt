@@ -4,7 +4,7 @@ use mathlib.Core.Bool.{true, false}
 use denote.Ref.{now}
 use Rattle.machine_data.specs.Data.{lent}
 use Rattle.inputs.specs.Usable.{usableOf}
-use Rattle.channel.specs.Word.{advancedBy}
+use Rattle.advance.specs.After.{advancedBy}
 use Rattle.channel.specs.Ensures.{AdvanceEnsures}
 use Rattle.channel.proofs.Judging.{usable-cycle, unusable-cycle}
 use borrow.Author.Needs.{needs}

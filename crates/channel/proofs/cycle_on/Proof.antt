@@ -7,7 +7,7 @@ use Rattle.inputs.specs.Usable.{usableOf}
 use Rattle.causes.specs.Codes.{Lists, listedIf}
 use Rattle.judge.specs.declared.Findings.{Findings}
 use Rattle.judge.specs.Causes.{rowsOf}
-use Rattle.channel.specs.Word.{advancedBy}
+use Rattle.advance.specs.After.{advancedBy}
 use Rattle.channel.specs.Ensures.{AdvanceEnsures}
 use Rattle.channel.proofs.Judging.{usable-cycle, usable-lists, unusable-cycle, unusable-lists}
 use borrow.Author.Needs.{needs}

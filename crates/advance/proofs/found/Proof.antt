@@ -1,7 +1,7 @@
--- `channel::found` meets its contract. Assumes nothing.
+-- `advance::found` meets its contract. Assumes nothing.
 use borrow.Author.Needs.{needs}
-use Rattle.channel.proofs.found.Statement.{statement}
-use Rattle.channel.proofs.found.Tie as tie
+use Rattle.advance.proofs.found.Statement.{statement}
+use Rattle.advance.proofs.found.Tie as tie
 
 usable-requires : tie.Need-usable-requires
 usable-requires c κs = search needs

@@ -1,7 +1,7 @@
--- `channel::unusable` meets its contract. Assumes nothing.
+-- `advance::unusable` meets its contract. Assumes nothing.
 use borrow.Author.Needs.{needs}
-use Rattle.channel.proofs.unusable.Statement.{statement}
-use Rattle.channel.proofs.unusable.Tie as tie
+use Rattle.advance.proofs.unusable.Statement.{statement}
+use Rattle.advance.proofs.unusable.Tie as tie
 
 next-k-requires : tie.Need-next-k-requires
 next-k-requires c κs = search needs

@@ -1,7 +1,7 @@
--- `channel::skipped` meets its contract. Assumes nothing.
+-- `advance::skipped` meets its contract. Assumes nothing.
 use borrow.Author.Needs.{needs}
-use Rattle.channel.proofs.skipped.Statement.{statement}
-use Rattle.channel.proofs.skipped.Tie as tie
+use Rattle.advance.proofs.skipped.Statement.{statement}
+use Rattle.advance.proofs.skipped.Tie as tie
 
 unusable-requires : tie.Need-unusable-requires
 unusable-requires c κs = search needs

@@ -1,10 +1,10 @@
--- `channel::usable` meets its contract. Assumes nothing.
+-- `advance::usable` meets its contract. Assumes nothing.
 use mir.Syntax.{w32}
 use mir.Val.{SFits}
 use mir.Facts.{toZ-ofZ}
 use borrow.Author.Needs.{needs}
-use Rattle.channel.proofs.usable.Statement.{statement}
-use Rattle.channel.proofs.usable.Tie as tie
+use Rattle.advance.proofs.usable.Statement.{statement}
+use Rattle.advance.proofs.usable.Tie as tie
 
 clears-requires : tie.Need-clears-requires
 clears-requires c κs = search needs

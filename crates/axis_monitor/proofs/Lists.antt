@@ -6,7 +6,7 @@ use native.Mathlib.Omega.{arith}
 use lib.IntN.{ℤ}
 use lib.Dec.{eqb→eq}
 use Rattle.laws.proofs.Never.{never}
-use Rattle.machine_data.specs.Table.{dataCount}
+use Rattle.ranges.specs.Table.{dataCount}
 use Rattle.machine_data.specs.declared.MachineData.{MachineData}
 use Rattle.refusal.specs.declared.Refusal.{Refusal}
 use Rattle.refusal.specs.Refusal.{refusalNumber, refusalPlace}

@@ -21,7 +21,7 @@ use Rattle.words.proofs.Word.{the-type}
 use Rattle.words.proofs.Cases.{no-datum, there}
 use Rattle.whole.specs.declared.Whole as H
 use Rattle.whole.specs.Whole.{wholeOf}
-use Rattle.machine_data.specs.Table.{inRange}
+use Rattle.ranges.specs.Table.{inRange}
 use Rattle.datum.specs.declared.Datum as D
 use Rattle.datum.specs.declared.Pieces as P
 use Rattle.datum.specs.declared.DatumRead as R

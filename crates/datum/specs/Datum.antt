@@ -9,7 +9,7 @@ use Rattle.words.specs.Words.{wordAt, twos}
 use Rattle.words.specs.Cases.{ifDatum, ifPiece}
 use Rattle.whole.specs.declared.Whole as H
 use Rattle.whole.specs.Whole.{wholeOf}
-use Rattle.machine_data.specs.Table.{inRange}
+use Rattle.ranges.specs.Table.{inRange}
 use Rattle.datum.specs.declared.Datum as D
 use Rattle.datum.specs.declared.Pieces as P
 use Rattle.datum.specs.declared.DatumRead as R

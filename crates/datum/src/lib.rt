@@ -146,7 +146,7 @@ pub fn value_at(words: &[u32], k: usize, at: usize) -> DatumAnswer
     match datum_at(words, k, at) {
         DatumRead::Datum(d, next) => match resolve(d, at) {
             Units::Are(z) => {
-                if machine_data::in_range(k, z) {
+                if ranges::in_range(k, z) {
                     DatumAnswer::Value(z, next)
                 } else {
                     DatumAnswer::Refused(Refusal::OutOfRange(at))

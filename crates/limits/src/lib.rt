@@ -1,7 +1,7 @@
 // Causes 2 to 9: whether each stands, and the ranks that data give.
 ghost use mathlib.Core.Path.{_≡_};
 ghost use Prim.Native.Nat.{_<_};
-ghost use Rattle.machine_data.specs.Table.{dataCount};
+ghost use Rattle.ranges.specs.Table.{dataCount};
 ghost use Rattle.limits.specs.Limits.{standstillLeft, overSpeed, sgRank, beyond, outside, seRank, external, holdLeft};
 use inputs::External;
 use inputs::Reading;

@@ -22,7 +22,7 @@ use Rattle.words.specs.Words.{wordAt}
 use Rattle.words.proofs.IsWord.{read-at}
 use Rattle.words.proofs.Front.{front-reads, front-is}
 use Rattle.words.proofs.Cases.{is-head, case-head, Case, met, missed, there}
-use Rattle.machine_data.specs.Table.{dataCount, inRange}
+use Rattle.ranges.specs.Table.{dataCount, inRange}
 use Rattle.machine_data.specs.Data.{InRanges}
 use Rattle.machine_data.specs.declared.MachineData.{MachineData}
 use Rattle.datum.specs.declared.DatumAnswer as D

@@ -11,7 +11,7 @@ use lib.IntN.{ℤ, pos}
 use lib.Signed.{leZ}
 use lib.Dec.{T, ltb, ltb→lt}
 use lib.Ieee.Fits.{and-l}
-use Rattle.machine_data.specs.Table.{dataCount, lowOf, highOf, inRange}
+use Rattle.ranges.specs.Table.{dataCount, lowOf, highOf, inRange}
 use Rattle.datum.specs.declared.DatumAnswer as D
 use Rattle.datum.proofs.Written.{written-reads}
 use Rattle.datum.proofs.Forms.{value-behind}

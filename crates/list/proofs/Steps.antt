@@ -25,7 +25,7 @@ use Rattle.words.specs.Words.{wordAt}
 use Rattle.words.specs.Cases.{ifHead}
 use Rattle.words.proofs.Word.{the-type}
 use Rattle.words.proofs.Cases.{no-head}
-use Rattle.machine_data.specs.Table.{dataCount}
+use Rattle.ranges.specs.Table.{dataCount}
 use Rattle.machine_data.specs.declared.MachineData.{MachineData}
 use Rattle.datum.specs.declared.DatumAnswer as D
 use Rattle.datum.specs.Datum.{valueAt, behindOf}

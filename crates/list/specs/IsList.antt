@@ -5,7 +5,7 @@ use lib.IntN.{ℤ}
 use lib.Dec.{T}
 use Rattle.words.specs.declared.Word.the-variants.{Head}
 use Rattle.words.specs.IsWord.{IsWord}
-use Rattle.machine_data.specs.Table.{inRange}
+use Rattle.ranges.specs.Table.{inRange}
 use Rattle.machine_data.specs.declared.MachineData.{MachineData}
 use Rattle.datum.specs.Written.{Written}
 use Rattle.list.specs.Rules.{isHead, seBelow}

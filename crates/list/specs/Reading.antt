@@ -8,7 +8,7 @@ use Rattle.refusal.specs.declared.Refusal.{Refusal}
 use Rattle.refusal.specs.declared.Refusal.the-variants.{WrongWord, SeEnds}
 use Rattle.words.specs.Words.{wordAt}
 use Rattle.words.specs.Cases.{ifHead}
-use Rattle.machine_data.specs.Table.{dataCount}
+use Rattle.ranges.specs.Table.{dataCount}
 use Rattle.machine_data.specs.declared.MachineData.{MachineData}
 use Rattle.datum.specs.declared.DatumAnswer as D
 use Rattle.datum.specs.Datum.{valueAt, behindOf}

@@ -6,7 +6,7 @@ use lib.ListN.{getD}
 use lib.IntN.{ℤ, pos}
 use lib.Signed.{ltZ}
 use lib.Dec.{eqb}
-use Rattle.machine_data.specs.Table.{dataCount}
+use Rattle.ranges.specs.Table.{dataCount}
 
 -- "list head, value 51": a head holds the number of its list's data
 abbrev pub isHead : ℕ → Bool

@@ -1,16 +1,16 @@
 // Reads a list of machine data: a head, then as many data as it says, in number order.
 ghost use mathlib.Core.Path.{_≡_};
 ghost use Prim.Native.Nat.{_≤_};
-ghost use Rattle.machine_data.specs.Table.{dataCount};
+ghost use Rattle.ranges.specs.Table.{dataCount};
 ghost use Rattle.list.specs.Rules.{isHead};
 ghost use Rattle.list.specs.Reading.{placeOf, refusedList, ends, gather, zeros, readList};
 use datum::DatumAnswer;
-use machine_data::DATA;
 use machine_data::MachineData;
 use machine_data::numbers::SE1_MINUS;
 use machine_data::numbers::SE1_PLUS;
 use machine_data::numbers::SE2_MINUS;
 use machine_data::numbers::SE2_PLUS;
+use ranges::DATA;
 use refusal::Refusal;
 use words::Word;
 

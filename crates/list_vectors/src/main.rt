@@ -6,8 +6,8 @@
 use kit::KitAnswer;
 use libc::STDOUT_FILENO;
 use list::ListAnswer;
-use machine_data::DATA;
 use machine_data::MachineData;
+use ranges::DATA;
 use refusal::Part;
 use refusal::Refusal;
 

@@ -10,7 +10,7 @@ use lib.IntN.{ℤ, pos, negsuc}
 use lib.Signed.{leZ}
 use lib.Dec.{T, ltb, leb, leb→le, lit<}
 use lib.Ieee.Fits.{and-l, and-r}
-use Rattle.machine_data.specs.Table.{dataCount, lowOf, highOf, inRange}
+use Rattle.ranges.specs.Table.{dataCount, lowOf, highOf, inRange}
 use Rattle.machine_data.specs.Data.{datumOf, size, numberOf}
 use Rattle.machine_data.proofs.Stands.{in-range}
 

@@ -1,4 +1,3 @@
-pub mod Ends
 pub mod Tests
 pub mod Stands
 pub mod Bounds

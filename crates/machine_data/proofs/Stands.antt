@@ -1,18 +1,19 @@
 -- A datum is read within its range, and as it stands where it lies there: so in every accepted list. Assumes nothing.
 use mathlib.Core.Path.{_≡_, refl, sym, subst}
-use mathlib.Core.List.{List, [], _∷_}
+use mathlib.Core.List.{List}
 use mathlib.Core.Bool.{Bool, true, false, cond, _&&_}
 use Prim.Native.Nat.{ℕ, _≤_, _<_}
 use native.Mathlib.Omega.{arith}
 use lib.ListN.{getD}
 use lib.IntN.{ℤ, pos, negsuc}
 use lib.Signed.{ltZ, leZ, ltZ-yes, leZ-yes, ≤ℤ-refl, clashℤ}
-use lib.Dec.{T, leb, ltb, leb→le, lt→ltb}
+use lib.Dec.{T, ltb, leb→le, lt→ltb}
 use lib.Ieee.Fits.{and-i, and-l, and-r}
 use lib.Ieee.Bits.{is-true}
-use Rattle.machine_data.specs.Table.{dataCount, Row, rows, rowOf, lowOf, highOf, inRange}
+use Rattle.ranges.specs.Table.{dataCount, lowOf, highOf, inRange}
+use Rattle.ranges.proofs.Rising.{rises}
+use Rattle.ranges.proofs.Tests.{not-lt-le}
 use Rattle.machine_data.specs.Data.{nearest, datumOf, size, numberOf}
-use Rattle.machine_data.proofs.Tests.{not-lt-le}
 
 not-lt : (a b : ℤ) → T (leZ a b) → ltZ b a ≡ false
 not-lt a b h = go (ltZ b a) refl
@@ -37,20 +38,6 @@ as-stands d k h =
 
 -- ---- within its range
 
--- no row is empty
-rising : List Row → Bool
-rising [] = true
-rising (r ∷ rs) = leZ (r .low) (r .high) && rising rs
-
-row-rises : (rs : List Row) (k : ℕ) → T (rising rs) → T (leZ (rowOf rs k .low) (rowOf rs k .high))
-unfolding rising
-row-rises [] k t = tt
-row-rises (r ∷ rs) k t = go (leb k (r .last)) (row-rises rs k (and-r (leZ (r .low) (r .high)) (rising rs) t))
-  where
-    go : (b : Bool) → T (leZ (rowOf rs k .low) (rowOf rs k .high)) → T (leZ (cond b r (rowOf rs k) .low) (cond b r (rowOf rs k) .high))
-    go true later = and-l (leZ (r .low) (r .high)) (rising rs) t
-    go false later = later
-
 nearest-in : (low high z : ℤ) → T (leZ low high) → T (leZ low (nearest low high z)) × T (leZ (nearest low high z) high)
 unfolding nearest
 nearest-in low high z h = go (ltZ z low) refl (ltZ high z) refl
@@ -61,10 +48,10 @@ nearest-in low high z h = go (ltZ z low) refl (ltZ high z) refl
     go false p false q = (subst T (sym (not-lt-le z low p)) tt, subst T (sym (not-lt-le high z q)) tt)
 
 pub in-range : (d : List ℤ) (k : ℕ) → k < dataCount → T (inRange k (datumOf d k))
-unfolding datumOf inRange rising
+unfolding datumOf inRange
 in-range d k h =
     let z = nearest (lowOf k) (highOf k) (getD d k (pos 0)) in
-    let r = nearest-in (lowOf k) (highOf k) (getD d k (pos 0)) (row-rises rows k tt) in
+    let r = nearest-in (lowOf k) (highOf k) (getD d k (pos 0)) (rises k) in
     simp (is-true (ltb k dataCount) (lt→ltb k dataCount h)) (and-i (leZ (lowOf k) z) (leZ z (highOf k)) (r .0) (r .1))
 
 -- ---- the same of a number, for whoever computes with it

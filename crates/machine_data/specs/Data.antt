@@ -8,8 +8,8 @@ use lib.IntN.{ℤ, pos, negsuc}
 use lib.Signed.{ltZ}
 use lib.Dec.{T, ltb}
 use Rattle.bits.specs.Bits.{bitOf}
+use Rattle.ranges.specs.Table.{dataCount, lowOf, highOf, inRange}
 use Rattle.machine_data.specs.declared.MachineData.{MachineData}
-use Rattle.machine_data.specs.Table.{dataCount, lowOf, highOf, inRange}
 
 -- a list whose values and count are lent apart
 abbrev pub lent : List ℤ → ℕ → MachineData

@@ -1,14 +1,12 @@
-// The machine data of a channel: the table of ranges, the data of a list, and a datum read within its range.
+// The machine data of a channel: the data of a list by number and name, and a datum read within its range.
 pub mod functions;
 pub mod numbers;
 
 ghost use mathlib.Core.Path.{_≡_};
-ghost use Prim.Native.Nat.{_<_, _≤_, _+_, _%_};
-ghost use Rattle.machine_data.specs.Table.{dataCount, lowOf, highOf, rangeOf, inRange};
+ghost use Prim.Native.Nat.{_<_, _+_, _%_};
+ghost use Rattle.ranges.specs.Table.{dataCount, lowOf, highOf};
 ghost use Rattle.machine_data.specs.Data.{datumOf, size, numberOf, entryOf, functionOf};
-
-// How many data a list has.
-pub const DATA: usize = 51;
+use ranges::DATA;
 
 // The data by their numbers, as they are lent.
 pub type Values = [i32; DATA];
@@ -17,109 +15,6 @@ pub type Values = [i32; DATA];
 pub struct MachineData {
     pub values: Values,
     pub count: usize,
-}
-
-// The range of a datum, by its ends.
-struct Range {
-    low: i32,
-    high: i32,
-}
-
-// The rows of the table up to datum 15.
-fn range_to_15(k: usize) -> Range
-    requires { ⌜ k < 16 ⌝ }
-    ensures { λ r. ⌜ r ≡ rangeOf k ⌝ }
-{
-    if k < 1 {
-        Range { low: 1, high: 25 }
-    } else if k < 2 {
-        Range { low: 0, high: 31 }
-    } else if k < 3 {
-        Range {
-            low: 0,
-            high: 100000,
-        }
-    } else if k < 7 {
-        Range {
-            low: 1,
-            high: 1000000,
-        }
-    } else if k < 11 {
-        Range { low: 1, high: 5 }
-    } else if k < 15 {
-        Range {
-            low: -100000000,
-            high: 100000000,
-        }
-    } else {
-        Range { low: 1, high: 3 }
-    }
-}
-
-// The rows behind it, those with many data first.
-fn range_from_16(k: usize) -> Range
-    requires { ⌜ 16 ≤ k ⌝ }
-    requires { ⌜ k < dataCount ⌝ }
-    ensures { λ r. ⌜ r ≡ rangeOf k ⌝ }
-{
-    if k < 24 {
-        Range {
-            low: -100000000,
-            high: 100000000,
-        }
-    } else if 35 <= k {
-        Range { low: 1, high: 100 }
-    } else if k < 25 {
-        Range {
-            low: 0,
-            high: 100000,
-        }
-    } else if k < 26 {
-        Range {
-            low: 0,
-            high: 1000000,
-        }
-    } else if k < 27 {
-        Range {
-            low: 0,
-            high: 100000,
-        }
-    } else if k < 33 {
-        Range { low: 0, high: 1000 }
-    } else if k < 34 {
-        Range {
-            low: 0,
-            high: 1000000,
-        }
-    } else {
-        Range { low: 0, high: 1000 }
-    }
-}
-
-// The range of datum k, in two halves, so that a list passes few rows for each datum.
-fn range_of(k: usize) -> Range
-    requires { ⌜ k < dataCount ⌝ }
-    ensures { λ r. ⌜ r ≡ rangeOf k ⌝ }
-{
-    if k < 16 {
-        range_to_15(k)
-    } else {
-        range_from_16(k)
-    }
-}
-
-// Whether z may be datum k. There is none past the last.
-pub fn in_range(k: usize, z: i32) -> bool
-    ensures { λ r. ⌜ r ≡ inRange k z ⌝ }
-{
-    if DATA <= k {
-        return false;
-    }
-    let range = range_of(k);
-    if z < range.low {
-        return false;
-    }
-    z <= range.high
 }
 
 // Datum k between the ends of its range: what lies outside, as in no accepted list, reads as the nearer end.
@@ -153,7 +48,7 @@ pub fn datum(values: &Values, k: usize) -> i32
     if DATA <= k {
         return 0;
     }
-    let range = range_of(k);
+    let range = ranges::range_of(k);
     read(values, k, range.low, range.high)
 }
 

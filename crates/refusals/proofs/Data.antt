@@ -25,7 +25,7 @@ use Rattle.whole.specs.declared.Whole as H
 use Rattle.whole.specs.Whole.{wholeOf}
 use Rattle.whole.specs.Stands.{StandsFor}
 use Rattle.whole.proofs.Stands as whole-proofs
-use Rattle.machine_data.specs.Table.{inRange}
+use Rattle.ranges.specs.Table.{inRange}
 use Rattle.datum.specs.declared.Datum as D
 use Rattle.datum.specs.declared.Pieces as P
 use Rattle.datum.specs.declared.DatumRead as R

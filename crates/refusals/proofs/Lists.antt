@@ -24,7 +24,7 @@ use Rattle.words.specs.Breaks.{a-head, fits}
 use Rattle.words.proofs.IsWord.{read-at}
 use Rattle.words.proofs.Breaks.{stands, lacks, lacked, held-head, other-head}
 use Rattle.words.proofs.Front.{front-reads}
-use Rattle.machine_data.specs.Table.{dataCount, inRange}
+use Rattle.ranges.specs.Table.{dataCount, inRange}
 use Rattle.machine_data.specs.declared.MachineData.{MachineData}
 use Rattle.datum.specs.declared.DatumAnswer as D
 use Rattle.datum.specs.Datum.{valueAt}

@@ -10,7 +10,7 @@ use Rattle.words.specs.declared.Word.the-variants.{Datum}
 use Rattle.words.specs.IsWord.{IsWord}
 use Rattle.words.specs.Breaks.{Sort, a-datum, a-piece, Lacks, Breaks}
 use Rattle.whole.specs.Stands.{StandsFor}
-use Rattle.machine_data.specs.Table.{inRange}
+use Rattle.ranges.specs.Table.{inRange}
 use Rattle.datum.specs.Datum.{formPieces}
 use Rattle.datum.specs.Written.{InPieces, Written}
 

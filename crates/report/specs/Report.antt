@@ -3,7 +3,7 @@ use Prim.Native.Nat.{ℕ, suc}
 use mathlib.Core.Bool.{Bool, cond, _&&_}
 use lib.IntN.{natAbs, _-ℤ_}
 use lib.Dec.{ltb}
-use Rattle.machine_data.specs.Table.{dataCount}
+use Rattle.ranges.specs.Table.{dataCount}
 use Rattle.machine_data.specs.declared.MachineData.{MachineData}
 use Rattle.machine_data.specs.Data.{entryOf}
 use Rattle.inputs.specs.declared.Reading.{Reading}

@@ -3,8 +3,8 @@ ghost use mathlib.Core.Path.{_≡_};
 ghost use Rattle.machine_data.specs.Data.{lent};
 ghost use Rattle.report.specs.Report.{nextK, reportOf, datumDiffers};
 use inputs::Reading;
-use machine_data::DATA;
 use machine_data::Values;
+use ranges::DATA;
 
 // The other channel's position, input word and datum k.
 pub struct Report {

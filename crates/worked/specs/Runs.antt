@@ -4,8 +4,8 @@ use mathlib.Core.Bool.{false}
 use mathlib.Core.List.{List, [], _∷_}
 use lib.ListN.{set}
 use lib.IntN.{ℤ, pos}
+use Rattle.ranges.specs.Table.{dataCount, lowOf}
 use Rattle.machine_data.specs.declared.MachineData.{MachineData}
-use Rattle.machine_data.specs.Table.{dataCount, lowOf}
 use Rattle.seven.specs.declared.CycleRecord.{CycleRecord}
 use Rattle.records.specs.Records.{reading}
 use Rattle.state.specs.declared.Given.{Given}

@@ -1,7 +1,7 @@
 -- `list_vectors::put_changed` meets its contract. Assumes nothing.
 use Prim.Native.Nat.{_-_}
 use borrow.Author.Needs.{needs}
-use Rattle.machine_data.specs.Table.{dataCount}
+use Rattle.ranges.specs.Table.{dataCount}
 use Rattle.list_vectors.proofs.put_changed.Statement.{statement}
 use Rattle.list_vectors.proofs.put_changed.Tie as tie
 

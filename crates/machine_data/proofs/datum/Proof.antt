@@ -2,10 +2,9 @@
 use mathlib.Core.Path.{_∙_, ap}
 use mir.Syntax.{w32}
 use mir.ValLaws.{toZ-ofZ}
-use mathlib.Core.Path.{ap}
 use borrow.Author.Tests.{le-ltb}
+use Rattle.ranges.specs.declared.Range.{Range}
 use Rattle.machine_data.specs.Data.{datumOf}
-use Rattle.machine_data.specs.declared.Range.{Range}
 use borrow.Author.Needs.{needs}
 use Rattle.machine_data.proofs.datum.Statement.{statement}
 use Rattle.machine_data.proofs.datum.Tie as tie

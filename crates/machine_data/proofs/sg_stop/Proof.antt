@@ -5,9 +5,9 @@ use native.Mathlib.Omega.{arith}
 use lib.IntN.{pos}
 use mir.Syntax.{w32}
 use mir.ValLaws.{toZ-ofZ}
-use Rattle.machine_data.specs.Table.{lowOf, highOf}
+use Rattle.ranges.specs.Table.{lowOf, highOf}
+use Rattle.ranges.proofs.Ends.{along}
 use Rattle.machine_data.specs.Data.{size, numberOf}
-use Rattle.machine_data.proofs.Ends.{along}
 use borrow.Author.Needs.{needs}
 use Rattle.machine_data.proofs.sg_stop.Statement.{statement}
 use Rattle.machine_data.proofs.sg_stop.Tie as tie

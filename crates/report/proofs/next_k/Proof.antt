@@ -4,7 +4,7 @@ use native.Mathlib.Numerals.{add-one}
 use native.Mathlib.Omega.{arith}
 use borrow.Author.Tests.{lt-ltb, le-ltb}
 use Prim.Native.Nat.{suc}
-use Rattle.machine_data.specs.Table.{dataCount}
+use Rattle.ranges.specs.Table.{dataCount}
 use borrow.Author.Needs.{needs}
 use Rattle.report.proofs.next_k.Statement.{statement}
 use Rattle.report.proofs.next_k.Tie as tie

@@ -1,8 +1,8 @@
--- `machine_data::range_from_16` meets its contract, row by row. Assumes nothing.
+-- `ranges::range_from_16` meets its contract, row by row. Assumes nothing.
 use lib.IntN.{pos, negsuc}
-use Rattle.machine_data.proofs.Ends.{range-along}
-use Rattle.machine_data.proofs.range_from_16.Statement.{statement}
-use Rattle.machine_data.proofs.range_from_16.Tie as tie
+use Rattle.ranges.proofs.Ends.{range-along}
+use Rattle.ranges.proofs.range_from_16.Statement.{statement}
+use Rattle.ranges.proofs.range_from_16.Tie as tie
 
 returns : tie.Need-returns
 returns c = range-along (negsuc 99999999) (pos 100000000) 16 8 _ tt tt (c .before .pre .0) (c .if1 .taken)

@@ -1,13 +1,14 @@
 -- The code's ends of a range are those of the paper's rows: one computed test for each stretch of numbers. Assumes nothing.
-use mathlib.Core.Path.{_≡_, refl, ap, _∙_}
+use mathlib.Core.Path.{_≡_, refl, sym, ap, _∙_}
+use mathlib.Core.List.{List, [], _∷_}
 use mathlib.Core.Bool.{Bool, true, false, _&&_}
 use Prim.Native.Nat.{ℕ, zero, suc, _+_, _≤_, _<_}
 use native.Mathlib.Omega.{arith}
 use lib.IntN.{ℤ, pos, negsuc}
-use lib.Dec.{T, eqb, ltb, eqb→eq}
+use lib.Dec.{T, eqb, ltb, eqb→eq, ltb→lt}
 use lib.Ieee.Fits.{and-l, and-r}
-use borrow.Author.Tests.{ltb-true, ltb-false}
-use Rattle.machine_data.specs.Table.{lowOf, highOf, rangeOf}
+use borrow.Author.Tests.{ltb-true, ltb-false, lt-leb}
+use Rattle.ranges.specs.Table.{dataCount, Row, to, rows, rowOf, lowOf, highOf, rangeOf}
 
 abbrev same : ℤ → ℤ → Bool
 same (pos m) (pos n) = eqb m n
@@ -37,3 +38,18 @@ along f v a (suc n) k t h l = go (ltb a k) refl (λ later. along f v (suc a) n k
 -- both ends along a stretch of numbers
 pub range-along : (low high : ℤ) (a n k : ℕ) → T (level lowOf low a n) → T (level highOf high a n) → a ≤ k → k < a + n → record { low = low; high = high } ≡ rangeOf k
 range-along low high a n k lows highs h l = λ i. record { low = along lowOf low a n k lows h l i; high = along highOf high a n k highs h l i }
+
+-- no row goes as far as datum n
+abbrev short : List Row → ℕ → Bool
+short [] n = true
+short (r ∷ rs) n = ltb (r .last) n && short rs n
+
+no-row : (rs : List Row) (n k : ℕ) → T (short rs n) → n ≤ k → rowOf rs k ≡ to k (pos 0) 0
+no-row [] n k t h = refl
+no-row (r ∷ rs) n k t h =
+    let last = ltb→lt (r .last) n (and-l (ltb (r .last) n) (short rs n) t) in
+    simp (lt-leb k (r .last) (omega (arith, h, last))) (no-row rs n k (and-r (ltb (r .last) n) (short rs n) t) h)
+
+-- both ends past the last datum
+pub range-past : (k : ℕ) → dataCount ≤ k → record { low = pos 0; high = pos 0 } ≡ rangeOf k
+range-past k h = λ i. let r = sym (no-row rows dataCount k tt h) i in record { low = r .low; high = r .high }

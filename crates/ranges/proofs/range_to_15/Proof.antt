@@ -1,9 +1,9 @@
--- `machine_data::range_to_15` meets its contract, row by row. Assumes nothing.
+-- `ranges::range_to_15` meets its contract, row by row. Assumes nothing.
 use native.Mathlib.Omega.{arith}
 use lib.IntN.{pos, negsuc}
-use Rattle.machine_data.proofs.Ends.{range-along}
-use Rattle.machine_data.proofs.range_to_15.Statement.{statement}
-use Rattle.machine_data.proofs.range_to_15.Tie as tie
+use Rattle.ranges.proofs.Ends.{range-along}
+use Rattle.ranges.proofs.range_to_15.Statement.{statement}
+use Rattle.ranges.proofs.range_to_15.Tie as tie
 
 returns : tie.Need-returns
 returns c = range-along (pos 1) (pos 25) 0 1 _ tt tt (omega arith) (c .if1 .taken)

@@ -5,7 +5,7 @@ use mathlib.Core.Bool.{Bool, cond, _&&_}
 use lib.IntN.{ℤ, pos, negsuc}
 use lib.Signed.{leZ}
 use lib.Dec.{leb, ltb}
-use Rattle.machine_data.specs.declared.Range.{Range}
+use Rattle.ranges.specs.declared.Range.{Range}
 
 -- "numbers 0 to 50": how many data a list has
 abbrev pub dataCount : ℕ
@@ -72,7 +72,7 @@ lowOf k = rowOf rows k .low
 abbrev pub highOf : ℕ → ℤ
 highOf k = rowOf rows k .high
 
--- both ends of datum k's range
+-- both ends of datum k's range; 0 to 0 past the last
 abbrev pub rangeOf : ℕ → Range
 rangeOf k = record { low = lowOf k; high = highOf k }
 

@@ -1,0 +1,120 @@
+// The table of ranges: between which ends each of the machine data lies.
+ghost use mathlib.Core.Path.{_≡_};
+ghost use Prim.Native.Nat.{_<_, _≤_};
+ghost use Rattle.ranges.specs.Table.{dataCount, rangeOf, inRange};
+
+// How many data a list has.
+pub const DATA: usize = 51;
+
+// The range of a datum, by its ends.
+pub struct Range {
+    pub low: i32,
+    pub high: i32,
+}
+
+// The rows of the table up to datum 15.
+fn range_to_15(k: usize) -> Range
+    requires { ⌜ k < 16 ⌝ }
+    ensures { λ r. ⌜ r ≡ rangeOf k ⌝ }
+{
+    if k < 1 {
+        Range { low: 1, high: 25 }
+    } else if k < 2 {
+        Range { low: 0, high: 31 }
+    } else if k < 3 {
+        Range {
+            low: 0,
+            high: 100000,
+        }
+    } else if k < 7 {
+        Range {
+            low: 1,
+            high: 1000000,
+        }
+    } else if k < 11 {
+        Range { low: 1, high: 5 }
+    } else if k < 15 {
+        Range {
+            low: -100000000,
+            high: 100000000,
+        }
+    } else {
+        Range { low: 1, high: 3 }
+    }
+}
+
+// The rows behind it, those with many data first.
+fn range_from_16(k: usize) -> Range
+    requires { ⌜ 16 ≤ k ⌝ }
+    requires { ⌜ k < dataCount ⌝ }
+    ensures { λ r. ⌜ r ≡ rangeOf k ⌝ }
+{
+    if k < 24 {
+        Range {
+            low: -100000000,
+            high: 100000000,
+        }
+    } else if 35 <= k {
+        Range { low: 1, high: 100 }
+    } else if k < 25 {
+        Range {
+            low: 0,
+            high: 100000,
+        }
+    } else if k < 26 {
+        Range {
+            low: 0,
+            high: 1000000,
+        }
+    } else if k < 27 {
+        Range {
+            low: 0,
+            high: 100000,
+        }
+    } else if k < 33 {
+        Range { low: 0, high: 1000 }
+    } else if k < 34 {
+        Range {
+            low: 0,
+            high: 1000000,
+        }
+    } else {
+        Range { low: 0, high: 1000 }
+    }
+}
+
+// The rows together, in two halves, so that a list passes few of them for each datum.
+fn row_of(k: usize) -> Range
+    requires { ⌜ k < dataCount ⌝ }
+    ensures { λ r. ⌜ r ≡ rangeOf k ⌝ }
+{
+    if k < 16 {
+        range_to_15(k)
+    } else {
+        range_from_16(k)
+    }
+}
+
+// The range of datum k, 0 to 0 past the last.
+pub fn range_of(k: usize) -> Range
+    ensures { λ r. ⌜ r ≡ rangeOf k ⌝ }
+{
+    if DATA <= k {
+        return Range { low: 0, high: 0 };
+    }
+    row_of(k)
+}
+
+// Whether z may be datum k. There is none past the last.
+pub fn in_range(k: usize, z: i32) -> bool
+    ensures { λ r. ⌜ r ≡ inRange k z ⌝ }
+{
+    if DATA <= k {
+        return false;
+    }
+    let range = row_of(k);
+    if z < range.low {
+        return false;
+    }
+    z <= range.high
+}

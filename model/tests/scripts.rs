@@ -407,6 +407,14 @@ fn a_text_that_is_no_script_is_refused() {
         let fault = Script::of("own", &format!("{QUOTE}{text}")).expect_err(text);
         assert_eq!(fault.to_string(), reason, "{text}");
     }
+    let nine: String = ('A'..='I')
+        .map(|name| format!("list {name} -> accepted 154\n"))
+        .collect();
+    let fault = Script::of("own", &format!("{QUOTE}{nine}")).expect_err("nine channels");
+    assert_eq!(
+        fault.to_string(),
+        "line 10: a script has at most 8 channels"
+    );
     for (text, reason) in [
         ("cycle X 0 SG1 -> 00000081 no cause", "'report' is missing"),
         (

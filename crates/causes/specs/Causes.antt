@@ -14,6 +14,10 @@ use Rattle.causes.specs.declared.Summary.{Summary}
 abbrev pub cause : ℕ → Bool → Rank → Cause
 cause code stands rank = record { code = code; stands = stands; rank = rank }
 
+-- causes 2 to 13: how many rows the table of a usable cycle has
+abbrev pub rowCount : ℕ
+rowCount = 12
+
 -- a table's rows taken into something, one behind the other
 abbrev pub overRows : {S : Type 0} → (Cause → S → S) → List Cause → S → S
 overRows take-in [] s = s

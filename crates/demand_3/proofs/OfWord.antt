@@ -1,6 +1,6 @@
 -- Laws of the channel word: each part of it is read back from its place. By one law of a number that is put together. Assumes nothing.
 use Prim.Native.Nat.{ℕ, _+_, _*_, _≤_, _<_, _/_, _%_, _^_}
-use mathlib.Core.Bool.{Bool, true, false, cond, _&&_, _||_}
+use mathlib.Core.Bool.{Bool, true, false, cond, _||_}
 use mathlib.Core.List.{List}
 use mathlib.Core.Path.{_≡_, refl, sym, _∙_}
 use native.Mathlib.Nat.{mod-eq-of-lt}
@@ -113,7 +113,7 @@ pub shows : (d : List ℤ) (s : State) (slow : Bool) → sgLessOne (s .kept .cho
 unfolding wordBy
 shows d s slow g =
     let sg = shown-sg (s .kept .choice .effective) g in
-    let p = parts (isEffective (s .kept .choice .effective)) (eqb (levelOf (s .stop)) 5) (functionOf d 3 && slow) (isHeld (s .stop)) (s .kept .fault .on)
+    let p = parts (isEffective (s .kept .choice .effective)) (eqb (levelOf (s .stop)) 5) slow (isHeld (s .stop)) (s .kept .fault .on)
     (shownCams d (s .kept .cams)) (shownSg (s .kept .choice .effective)) (levelOf (s .stop))
     (if-case (λ k. k < 256) (functionOf d 2) _ _ (λ _. omega arith) (λ _. omega arith)) (omega arith) (rank-le (rankOf (s .stop))) refl in
     record {

@@ -15,6 +15,9 @@ const CALLS: [&str; 8] = [
 /// The most that one line may be repeated.
 const MOST_TIMES: i64 = 1_000;
 
+/// The most channels: `examples/scripts.c` has room for as many.
+const MOST_CHANNELS: usize = 8;
+
 /// The most words of an output.
 const MOST_OUTPUT: i64 = 16_384;
 
@@ -170,6 +173,9 @@ impl Reading {
             return Err(format!("'{name}' is no name: one begins with a capital"));
         }
         let known = self.channels.iter().position(|known| known == name);
+        if known.is_none() && self.channels.len() == MOST_CHANNELS {
+            return Err(format!("a script has at most {MOST_CHANNELS} channels"));
+        }
         Ok(known.unwrap_or_else(|| {
             self.channels.push(name.into());
             self.channels.len() - 1

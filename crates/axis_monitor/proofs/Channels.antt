@@ -1,34 +1,35 @@
 -- A report that crosses comes back, and a cycle leaves the arrays of the channel after it. Assumes nothing.
-use mathlib.Core.Path.{_≡_, _∙_, subst}
+use mathlib.Core.Path.{_≡_, _∙_, sym, subst}
 use mathlib.Core.List.{List}
 use Prim.Native.Nat.{ℕ, _<_}
 use lib.IntN.{ℤ}
 use Rattle.machine_data.specs.Data.{lent}
+use Rattle.causes.specs.Codes.{Lists}
 use Rattle.state.specs.declared.Given.{Given}
+use Rattle.judge.specs.Causes.{rowsOf}
 use Rattle.channel.specs.declared.Cycled.{Cycled}
 use Rattle.channel.specs.Ensures.{CycledEnsures}
-use Rattle.image.specs.Image.{countFrom, stateFrom, stateWords, channelFrom}
-use Rattle.image.specs.Ensures.{WordsEnsures}
+use Rattle.image.specs.Image.{countFrom, listFrom, stateFrom, stateWords}
 use Rattle.report.specs.declared.Report.{Report}
 use Rattle.image.specs.Words.{Signed}
 use Rattle.image.proofs.Channels.{written}
 use Rattle.image.proofs.Twos.{signed-back}
 use Rattle.axis_monitor.specs.Crossing.{reportWords, reportFrom}
-use Rattle.axis_monitor.specs.Ensures.{CycleEnsures}
+use Rattle.axis_monitor.specs.Ensures.{LeaveEnsures, CycleEnsures}
 
 -- a report that crosses comes back
 pub report-back : (r : Report) → Signed (r .position) → Signed (r .datum) → reportFrom (reportWords r) ≡ r
 report-back r p d = λ i. record { position = signed-back (r .position) p i; inputs = r .inputs; datum = signed-back (r .datum) d i }
 
 module _ (values : List ℤ) (w : List ℕ) (g : Given) where
-  pub cycled : {count : ℕ} {r : Cycled} {w′ : List ℕ} → count ≡ countFrom w → count < 4294967296 →
-      CycledEnsures (lent values count) (stateFrom w) g r → WordsEnsures count (r .state) w′ → CycleEnsures values w g (r .word) w′ (r .causes .codes)
-  cycled {count} {r} {w′} is small e words =
+  pub cycled : {count : ℕ} {r : Cycled} {n : ℕ} {w′ codes′ : List ℕ} → count ≡ countFrom w → count < 4294967296 →
+      CycledEnsures (lent values count) (stateFrom w) g r → LeaveEnsures count r n w′ codes′ → CycleEnsures values w g n w′ codes′
+  cycled {count} {r} is small e left =
       let same : CycledEnsures (lent values (countFrom w)) (stateFrom w) g r = subst (λ (n : ℕ). CycledEnsures (lent values n) (stateFrom w) g r) is e in
       record {
-        word-is = same .word-is;
-        state-left = words .words ∙ (λ i. stateWords (is i) (same .state i));
-        channel = written values count (r .state) small words ∙ (λ i. record { list = lent values (is i); state = same .state i });
+        word-is = left .word-is ∙ same .word-is;
+        state-left = left .state .words ∙ (λ i. stateWords (is i) (same .state i));
+        channel = written values count (r .state) small (left .state) ∙ (λ i. record { list = lent values (is i); state = same .state i });
         many = r .causes .count;
-        causes = same .causes;
+        causes = subst (λ (codes : List ℕ). Lists (rowsOf (listFrom values w) (stateFrom w) g) (record { codes = codes; count = r .causes .count })) (sym (left .codes)) (same .causes);
       }

@@ -12,9 +12,11 @@ use Rattle.causes.specs.Codes.{Lists}
 use Rattle.state.specs.State.{freshState}
 use Rattle.state.specs.declared.Given.{Given}
 use Rattle.judge.specs.Causes.{rowsOf}
+use Rattle.channel.specs.declared.Cycled.{Cycled}
 use Rattle.channel.specs.Cycle.{freshChannel, withState, next}
 use Rattle.channel.specs.Word.{word}
 use Rattle.image.specs.Image.{countFrom, listFrom, stateFrom, stateWords, channelFrom}
+use Rattle.image.specs.Ensures.{WordsEnsures}
 use Rattle.axis_monitor.specs.Crossing.{reportWords, reportFrom, listNumber, listPlace, listLeft}
 
 -- a list read into a channel's arrays
@@ -41,3 +43,10 @@ pub record CycleEnsures (values : List ℤ) (state : List ℕ) (g : Given) (w : 
   pub channel : channelFrom values state′ ≡ withState (channelFrom values state) (next (listFrom values state) (stateFrom state) g)
   pub many : ℕ
   pub causes : Lists (rowsOf (listFrom values state) (stateFrom state) g) (record { codes = codes′; count = many })
+
+-- ---- of the private function: what a cycle leaves
+
+pub record LeaveEnsures (count : ℕ) (r : Cycled) (w : ℕ) (state′ codes′ : List ℕ) : Type 0 where
+  pub word-is : w ≡ r .word
+  pub state : WordsEnsures count (r .state) state′
+  pub codes : codes′ ≡ r .causes .codes

@@ -4,8 +4,9 @@
 ghost use mathlib.Core.Path.{_≡_};
 ghost use Rattle.device.specs.Device.{deviceOf};
 ghost use Rattle.axis_monitor.specs.Crossing.{interfaceNumber, reportWords, reportFrom, givenFrom};
-ghost use Rattle.axis_monitor.specs.Ensures.{ReadListEnsures, ReportEnsures, CycleEnsures};
+ghost use Rattle.axis_monitor.specs.Ensures.{ReadListEnsures, ReportEnsures, LeaveEnsures, CycleEnsures};
 use causes::CODES;
+use channel::Cycled;
 use image::Image;
 use inputs::Reading;
 use list::ListAnswer;
@@ -99,7 +100,20 @@ fn given_from(position: i32, inputs: u32, acknowledged: u32, report: &ReportWord
     }
 }
 
-// A cycle: the channel word, with the state after it and the codes that stand.
+// What a cycle leaves in the caller's memory, and its word.
+fn leave(count: usize, cycled: Cycled, state: &mut Image, causes: &mut Codes) -> u32
+    ensures { λ r. ⌜ LeaveEnsures count cycled r (now (state .exit)) (now (causes .exit)) ⌝ }
+{
+    let after = cycled.state;
+    let list = cycled.causes;
+    let codes = list.codes;
+    *state = image::words_of(count, after);
+    *causes = codes;
+    cycled.word
+}
+
+// A cycle: the channel word, with the state after it and the codes that stand. Each of the two ways writes what it leaves by
+// itself: written behind them, the parts that only one of them changes would have to be chosen one by one.
 #[no_mangle]
 pub extern "C" fn monitor_cycle(
     values: &Values,
@@ -115,13 +129,13 @@ pub extern "C" fn monitor_cycle(
     let given = given_from(position, inputs, acknowledged, report);
     let count = image::count_of(state);
     let before = image::state_from(state);
-    let cycled = channel::cycle_on(values, count, before, given);
-    let after = cycled.state;
-    let list = cycled.causes;
-    let codes = list.codes;
-    *state = image::words_of(count, after);
-    *causes = codes;
-    cycled.word
+    if inputs::usable(values, count, given.reading) {
+        let cycled = channel::usable_cycle(values, count, before, given);
+        leave(count, cycled, state, causes)
+    } else {
+        let cycled = channel::unusable_cycle(values, count, before);
+        leave(count, cycled, state, causes)
+    }
 }
 
 // The device word of two channel words.

@@ -1,3 +1,4 @@
 pub mod Cycle
 pub mod Word
+pub mod Cycled
 pub mod Ensures

@@ -1,11 +1,13 @@
--- `axis_monitor::monitor_cycle` meets its contract. Assumes nothing.
-use mathlib.Core.Path.{_≡_, _∙_}
-use mir.Syntax.{w32}
-use mir.Val.{SFits}
+-- `axis_monitor::monitor_cycle` meets its contract: each way is a cycle's, and leaves what that cycle leaves. Assumes nothing.
+use mathlib.Core.Path.{_≡_, sym, _∙_, subst}
+use mathlib.Core.Bool.{true, false}
 use mir.Facts.{toZ-ofZ}
 use denote.Ref.{now}
 use Rattle.machine_data.specs.Data.{lent}
+use Rattle.inputs.specs.Usable.{usableOf}
+use Rattle.channel.specs.Cycled.{usableCycled, unusableCycled}
 use Rattle.channel.specs.Ensures.{CycledEnsures}
+use Rattle.channel.proofs.Judging.{usable-cycled, unusable-cycled}
 use Rattle.image.specs.Image.{stateFrom}
 use Rattle.axis_monitor.specs.Crossing.{givenFrom}
 use Rattle.axis_monitor.proofs.Channels.{cycled}
@@ -22,17 +24,48 @@ count-of-requires c κs = search needs
 state-from-requires : tie.Need-state-from-requires
 state-from-requires c κs = search needs
 
-cycle-on-requires : tie.Need-cycle-on-requires
-cycle-on-requires c κs = search needs
+usable-requires : tie.Need-usable-requires
+usable-requires c κs = search needs
 
-words-of-requires : tie.Need-words-of-requires
-words-of-requires c κs = search needs
+usable-cycle-requires : tie.Need-usable-cycle-requires
+usable-cycle-requires c κs = search needs
+
+leave-requires : tie.Need-leave-requires
+leave-requires c κs = search needs
+
+unusable-cycle-requires : tie.Need-unusable-cycle-requires
+unusable-cycle-requires c κs = search needs
+
+leave-requires-2 : tie.Need-leave-requires-2
+leave-requires-2 c κs = search needs
 
 returns : tie.Need-returns
-returns c = let a = c .before .before .before .before .before .before .before .before .before .before .args in let f : SFits w32 (a .position) = c .before .before .before .before .before .before .before .before .before .before .fits .position in
-    let g : c .before .before .before .before .before .before .before .before .before .given-from .result ≡ givenFrom (a .position) (a .inputs) (a .acknowledged) (now (a .report)) = c .before .before .before .before .before .before .before .before .before .given-from .ensures ∙ simp (toZ-ofZ f) in
-    let e : CycledEnsures (lent (now (a .values)) (c .before .before .before .before .before .before .before .count-of .result)) (stateFrom (now (a .state))) (givenFrom (a .position) (a .inputs) (a .acknowledged) (now (a .report))) (c .before .before .before .before .cycle-on .result) = simp (c .before .before .before .before .before .state-from .ensures, g) at (c .before .before .before .before .cycle-on .ensures) in
-    cycled (now (a .values)) (now (a .state)) _ (c .before .before .before .before .before .before .before .count-of .ensures .0) (c .before .before .before .before .before .before .before .count-of .ensures .1) e (c .words-of .ensures)
+returns c =
+    let start = c .before .before .before .before .before .before .before .before .before .before .before in
+    let a = start .args in
+    let values = now (a .values) in
+    let w = now (a .state) in
+    let count = c .before .before .before .before .before .before .before .before .count-of in
+    let m = lent values (count .result) in
+    let g = givenFrom (a .position) (a .inputs) (a .acknowledged) (now (a .report)) in
+    let given : c .before .before .before .before .before .before .before .before .before .before .given-from .result ≡ g = c .before .before .before .before .before .before .before .before .before .before .given-from .ensures ∙ simp (toZ-ofZ (start .fits .position)) in
+    let u : usableOf m (g .reading) ≡ true = simp given at (sym (c .before .before .before .before .before .usable .ensures) ∙ c .before .before .before .before .if1 .taken) in
+    let cycle : c .before .before .before .usable-cycle .result ≡ usableCycled m (stateFrom w) g = simp (c .before .before .before .before .before .before .state-from .ensures, given) at (c .before .before .before .usable-cycle .ensures) in
+    cycled values w g (count .ensures .0) (count .ensures .1) (subst (CycledEnsures m (stateFrom w) g) (sym cycle) (usable-cycled m (stateFrom w) g u)) (c .leave .ensures)
+
+returns-2 : tie.Need-returns-2
+returns-2 c =
+    let start = c .before .before .before .before .before .before .before .before .before .before .before in
+    let a = start .args in
+    let values = now (a .values) in
+    let w = now (a .state) in
+    let count = c .before .before .before .before .before .before .before .before .count-of in
+    let m = lent values (count .result) in
+    let g = givenFrom (a .position) (a .inputs) (a .acknowledged) (now (a .report)) in
+    let given : c .before .before .before .before .before .before .before .before .before .before .given-from .result ≡ g = c .before .before .before .before .before .before .before .before .before .before .given-from .ensures ∙ simp (toZ-ofZ (start .fits .position)) in
+    let u : usableOf m (g .reading) ≡ false = simp given at (sym (c .before .before .before .before .before .usable .ensures) ∙ c .before .before .before .before .if1 .left) in
+    let cycle : c .before .before .before .unusable-cycle .result ≡ unusableCycled m (stateFrom w) = simp (c .before .before .before .before .before .before .state-from .ensures) at (c .before .before .before .unusable-cycle .ensures) in
+    cycled values w g (count .ensures .0) (count .ensures .1) (subst (CycledEnsures m (stateFrom w) g) (sym cycle) (unusable-cycled m (stateFrom w) g u)) (c .leave2 .ensures)
 
 pub monitor-cycle-spec : {M : Type 1} → statement M
 monitor-cycle-spec =
@@ -41,6 +74,10 @@ monitor-cycle-spec =
     given-from-requires
     count-of-requires
     state-from-requires
-    cycle-on-requires
-    words-of-requires
-    returns)
+    usable-requires
+    usable-cycle-requires
+    leave-requires
+    unusable-cycle-requires
+    leave-requires-2
+    returns
+    returns-2)

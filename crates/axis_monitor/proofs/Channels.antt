@@ -1,4 +1,4 @@
--- A report that crosses comes back, and a cycle leaves the arrays of the channel after it. Assumes nothing.
+-- A cycle leaves the arrays of the channel after it. Assumes nothing.
 use mathlib.Core.Path.{_≡_, _∙_, sym, subst}
 use mathlib.Core.List.{List}
 use Prim.Native.Nat.{ℕ, _<_}
@@ -10,16 +10,8 @@ use Rattle.judge.specs.Causes.{rowsOf}
 use Rattle.channel.specs.declared.Cycled.{Cycled}
 use Rattle.channel.specs.Ensures.{CycledEnsures}
 use Rattle.image.specs.Image.{countFrom, listFrom, stateFrom, stateWords}
-use Rattle.report.specs.declared.Report.{Report}
-use Rattle.image.specs.Words.{Signed}
 use Rattle.image.proofs.Channels.{written}
-use Rattle.image.proofs.Twos.{signed-back}
-use Rattle.axis_monitor.specs.Crossing.{reportWords, reportFrom}
 use Rattle.axis_monitor.specs.Ensures.{LeaveEnsures, CycleEnsures}
-
--- a report that crosses comes back
-pub report-back : (r : Report) → Signed (r .position) → Signed (r .datum) → reportFrom (reportWords r) ≡ r
-report-back r p d = λ i. record { position = signed-back (r .position) p i; inputs = r .inputs; datum = signed-back (r .datum) d i }
 
 module _ (values : List ℤ) (w : List ℕ) (g : Given) where
   pub cycled : {count : ℕ} {r : Cycled} {n : ℕ} {w′ codes′ : List ℕ} → count ≡ countFrom w → count < 4294967296 →

@@ -17,7 +17,8 @@ use Rattle.channel.specs.Cycle.{freshChannel, withState, next}
 use Rattle.channel.specs.Word.{word}
 use Rattle.image.specs.Image.{countFrom, listFrom, stateFrom, stateWords, channelFrom}
 use Rattle.image.specs.Ensures.{WordsEnsures}
-use Rattle.axis_monitor.specs.Crossing.{reportWords, reportFrom, listNumber, listPlace, listLeft}
+use Rattle.crossing_reports.specs.Reports.{reportWords, reportFrom}
+use Rattle.axis_monitor.specs.Crossing.{listNumber, listPlace, listLeft}
 
 -- a list read into a channel's arrays
 pub record ReadListEnsures (words : List ℕ) (values : List ℤ) (state : List ℕ) (number : ℕ) (values′ : List ℤ) (state′ : List ℕ) (at′ : ℕ) : Type 0 where

@@ -3,22 +3,17 @@
 // one with them, the code of a cycle would stand apart from both of its callers, and a log would run at less than half the speed.
 ghost use mathlib.Core.Path.{_≡_};
 ghost use Rattle.device.specs.Device.{deviceOf};
-ghost use Rattle.axis_monitor.specs.Crossing.{interfaceNumber, reportWords, reportFrom, givenFrom};
+ghost use Rattle.crossing_reports.specs.Reports.{givenFrom};
+ghost use Rattle.axis_monitor.specs.Crossing.{interfaceNumber};
 ghost use Rattle.axis_monitor.specs.Ensures.{ReadListEnsures, ReportEnsures, LeaveEnsures, CycleEnsures};
 use causes::CODES;
 use channel::Cycled;
+use crossing_reports::ReportWords;
 use image::Image;
 use inputs::Reading;
 use list::ListAnswer;
 use machine_data::Values;
-use report::Report;
-use state::Given;
 use state::State;
-
-// How many words a report has.
-pub const REPORT: usize = 3;
-
-pub type ReportWords = [u32; REPORT];
 
 pub type Codes = [u8; CODES];
 
@@ -58,17 +53,6 @@ pub extern "C" fn monitor_read_list(
     }
 }
 
-fn report_words(report: Report) -> ReportWords
-    ensures { λ r. ⌜ r ≡ reportWords report ⌝ }
-    ensures { λ r. ⌜ reportFrom r ≡ report ⌝ }
-{
-    [
-        image::unsigned(report.position),
-        report.inputs,
-        image::unsigned(report.datum),
-    ]
-}
-
 // What the channel reports of a cycle to the other channel.
 #[no_mangle]
 pub extern "C" fn monitor_report(
@@ -83,21 +67,7 @@ pub extern "C" fn monitor_report(
     let count = image::count_of(state);
     let known = image::state_from(state);
     let reading = Reading { position, inputs };
-    *report = report_words(report::report_of(values, count, known.k, reading));
-}
-
-fn given_from(position: i32, inputs: u32, acknowledged: u32, report: &ReportWords) -> Given
-    ensures { λ r. ⌜ r ≡ givenFrom position inputs acknowledged (now (report .entry)) ⌝ }
-{
-    Given {
-        reading: Reading { position, inputs },
-        acknowledged: image::yes(acknowledged),
-        report: Report {
-            position: image::signed(report[0]),
-            inputs: report[1],
-            datum: image::signed(report[2]),
-        },
-    }
+    *report = crossing_reports::report_words(report::report_of(values, count, known.k, reading));
 }
 
 // What a cycle leaves in the caller's memory, and its word.
@@ -126,7 +96,7 @@ pub extern "C" fn monitor_cycle(
 ) -> u32
     ensures { λ r. ⌜ CycleEnsures (now (values .entry)) (now (state .entry)) (givenFrom position inputs acknowledged (now (report .entry))) r (now (state .exit)) (now (causes .exit)) ⌝ }
 {
-    let given = given_from(position, inputs, acknowledged, report);
+    let given = crossing_reports::given_from(position, inputs, acknowledged, report);
     let count = image::count_of(state);
     let before = image::state_from(state);
     if inputs::usable(values, count, given.reading) {

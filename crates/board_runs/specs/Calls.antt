@@ -7,7 +7,7 @@ use lib.Dec.{eqb}
 use lib.IntN.{ℤ}
 use Rattle.device.specs.Device.{deviceOf}
 use Rattle.image.specs.Image.{channelFrom}
-use Rattle.axis_monitor.specs.Crossing.{givenFrom}
+use Rattle.crossing_reports.specs.Reports.{givenFrom}
 use Rattle.axis_monitor.specs.Ensures.{CycleEnsures}
 use Rattle.axis_logs.specs.Ensures.{RunLogEnsures}
 use Rattle.demand_3.specs.Calls.{Side, own, Call, single, logged, Words, wordsFrom}

@@ -1,43 +1,13 @@
--- A state that goes into words comes back, part by part: each number of a case is read as the case that wrote it. Assumes nothing.
+-- A state that goes into words comes back, part by part. Assumes nothing.
 use mathlib.Core.Path.{_≡_, refl, ap, _∙_}
-use mathlib.Core.Bool.{Bool, true, false}
 use mathlib.Core.List.{List}
 use Prim.Native.Nat.{ℕ, _%_, _<_}
 use native.Mathlib.Omega.{arith}
-use Rattle.distance.specs.declared.Previous.{Previous}
-use Rattle.distance.specs.declared.Previous.the-variants.{Absent, At}
-use Rattle.selection.specs.declared.Selection.{Selection}
-use Rattle.selection.specs.declared.Selection.the-variants.{Nothing, Sg, Sbh}
-use Rattle.rank.proofs.Laws.{number-rankFrom}
-use Rattle.stop.specs.declared.Stop.{Stop}
-use Rattle.stop.specs.declared.Stop.the-variants.{Free, Braking, Held, Cancelled}
 use Rattle.state.specs.declared.State.{State}
-use Rattle.image.specs.Words.{yesFrom, yesWord, previousFrom, previousWords, PreviousFits, selectionFrom, selectionWords, SelectionFits, stopFrom, stopWords, StopFits}
+use Rattle.crossing.proofs.Back.{signed-back, yes-back}
+use Rattle.image_cases.proofs.Back.{byte-back, previous-back, selection-back, stop-back}
 use Rattle.image.specs.Image.{countFrom, stateFrom, stateWords, Fits}
 use Rattle.image.specs.Ensures.{WordsEnsures}
-use Rattle.image.proofs.Twos.{signed-back}
-
-byte-back : (n : ℕ) → n < 256 → n % 256 ≡ n
-byte-back n h = omega arith
-
-yes-back : (b : Bool) → yesFrom (yesWord b) ≡ b
-yes-back true = refl
-yes-back false = refl
-
-previous-back : (p : Previous) → PreviousFits p → previousFrom (previousWords p .kind) (previousWords p .first) ≡ p
-previous-back Absent h = refl
-previous-back (At position) h = ap At (signed-back position h)
-
-selection-back : (s : Selection) → SelectionFits s → selectionFrom (selectionWords s .kind) (selectionWords s .first) (selectionWords s .second) ≡ s
-selection-back Nothing h = refl
-selection-back (Sg number over) h = λ i. Sg (byte-back number (h .0) i) (byte-back over (h .1) i)
-selection-back Sbh h = refl
-
-stop-back : (s : Stop) → StopFits s → stopFrom (stopWords s .kind) (stopWords s .first) (stopWords s .second) ≡ s
-stop-back Free h = refl
-stop-back (Braking rank left) h = simp (number-rankFrom rank)
-stop-back (Held rank reference) h = simp (number-rankFrom rank, signed-back reference h)
-stop-back Cancelled h = refl
 
 -- a channel that goes out and comes back is the same channel: its state, and the count of its list
 pub comes-back : (count : ℕ) (s : State) → Fits s → stateFrom (stateWords count s) ≡ s

@@ -1,3 +1,2 @@
-pub mod Twos
 pub mod Back
 pub mod Channels

@@ -7,7 +7,8 @@ use Rattle.machine_data.specs.declared.MachineData.{MachineData}
 use Rattle.machine_data.specs.Data.{lent}
 use Rattle.state.specs.declared.State.{State}
 use Rattle.channel.specs.declared.Channel.{Channel}
-use Rattle.image.specs.Words.{signedOf, unsignedOf, Signed, yesFrom, yesWord, previousFrom, previousWords, PreviousFits, selectionFrom, selectionWords, SelectionFits, stopFrom, stopWords, StopFits}
+use Rattle.crossing.specs.Words.{signedOf, unsignedOf, Signed, yesFrom, yesWord}
+use Rattle.image_cases.specs.Cases.{previousFrom, previousWords, PreviousFits, selectionFrom, selectionWords, SelectionFits, stopFrom, stopWords, StopFits}
 
 -- how many data the list has: word 0; 0 where there is no list
 abbrev pub countFrom : List ℕ → ℕ

@@ -9,7 +9,7 @@ use Rattle.channel.specs.Cycled.{usableCycled, unusableCycled}
 use Rattle.channel.specs.Ensures.{CycledEnsures}
 use Rattle.channel.proofs.Judging.{usable-cycled, unusable-cycled}
 use Rattle.image.specs.Image.{stateFrom}
-use Rattle.axis_monitor.specs.Crossing.{givenFrom}
+use Rattle.crossing_reports.specs.Reports.{givenFrom}
 use Rattle.axis_monitor.proofs.Channels.{cycled}
 use borrow.Author.Needs.{needs}
 use Rattle.axis_monitor.proofs.monitor_cycle.Statement.{statement}

@@ -1,5 +1,5 @@
 -- `axis_monitor::monitor_report` meets its contract. Assumes nothing.
-use Rattle.axis_monitor.specs.Crossing.{reportWords}
+use Rattle.crossing_reports.specs.Reports.{reportWords}
 use mathlib.Core.Path.{_≡_, ap, _∙_}
 use mir.Syntax.{w32}
 use mir.Val.{SFits}

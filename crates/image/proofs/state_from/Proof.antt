@@ -1,7 +1,11 @@
 -- `image::state_from` meets its contract. Assumes nothing.
+use Prim.Native.Nat.{_%_}
+use mathlib.Core.Path.{_∙_}
+use lib.ListN.{getD}
 use mir.Syntax.{w32}
 use mir.Val.{SFits}
 use mir.Facts.{toZ-ofZ}
+use denote.Ref.{now}
 use Rattle.image.specs.Image.{stateFrom}
 use borrow.Author.Needs.{needs}
 use Rattle.image.proofs.state_from.Statement.{statement}
@@ -78,7 +82,25 @@ previous-from-requires c κs = search needs
 
 returns : tie.Need-returns
 unfolding stateFrom
-returns c = let f : SFits w32 (c .before .before .before .before .before .before .before .before .before .before .before .before .signed .result) = search needs in simp (toZ-ofZ f) (simp (c .previous-from .ensures, c .before .before .before .stop-from .ensures, c .before .before .before .before .before .before .before .before .yes2 .ensures, c .before .before .before .before .before .before .before .before .before .before .before .before .signed .ensures, c .before .before .before .before .before .before .before .before .before .before .before .before .before .before .selection-from .ensures, c .before .before .before .before .before .before .before .before .before .before .before .before .before .before .before .before .before .before .yes .ensures))
+returns c = let w = now (c .before .before .before .before .before .before .before .before .before .before .before .before .before .before .before .before .before .before .before .before .before .before .args .words) in let signed = c .before .before .before .before .before .before .before .before .before .before .before .before .signed in let f : SFits w32 (signed .result) = search needs in λ i.
+    record {
+      k = getD w 1 0 % 256;
+      kept =
+          record {
+            cams = getD w 16 0;
+            choice =
+                record {
+                  chosen = c .before .before .before .before .before .before .before .before .before .before .before .before .before .before .before .before .before .before .yes .ensures i;
+                  effective = c .before .before .before .before .before .before .before .before .before .before .before .before .before .before .selection-from .ensures i;
+                  reference = (toZ-ofZ f ∙ signed .ensures) i;
+                  left = getD w 9 0;
+                };
+            differing = getD w 10 0;
+            fault = record { on = c .before .before .before .before .before .before .before .before .yes2 .ensures i; left = getD w 12 0 };
+          };
+      stop = c .before .before .before .stop-from .ensures i;
+      previous = c .previous-from .ensures i;
+    }
 
 pub state-from-spec : {M : Type 1} → statement M
 state-from-spec =

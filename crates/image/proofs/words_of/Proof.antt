@@ -3,7 +3,7 @@ use mir.Syntax.{w32}
 use mir.Val.{SFits}
 use mir.Facts.{toZ-ofZ}
 use Rattle.image.specs.Image.{stateWords, Fits}
-use Rattle.image.proofs.Twos.{is-signed}
+use Rattle.crossing.proofs.Twos.{is-signed}
 use Rattle.image.proofs.Back.{written}
 use borrow.Author.Needs.{needs}
 use Rattle.image.proofs.words_of.Statement.{statement}

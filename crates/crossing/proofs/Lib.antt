@@ -1,0 +1,2 @@
+pub mod Twos
+pub mod Back

@@ -1,0 +1,40 @@
+-- `crossing_reports::given_from` meets its contract. Assumes nothing.
+use mir.Syntax.{w32}
+use mir.Val.{SFits}
+use mir.Facts.{toZ-ofZ}
+use borrow.Author.Needs.{needs}
+use Rattle.crossing_reports.proofs.given_from.Statement.{statement}
+use Rattle.crossing_reports.proofs.given_from.Tie as tie
+
+yes-requires : tie.Need-yes-requires
+yes-requires c κs = search needs
+
+element-copy-out-signed : tie.Need-element-copy-out-signed
+element-copy-out-signed c = search needs
+
+signed-requires : tie.Need-signed-requires
+signed-requires c κs = search needs
+
+element-copy-out-t13 : tie.Need-element-copy-out-t13
+element-copy-out-t13 c = search needs
+
+element-copy-out-signed-2 : tie.Need-element-copy-out-signed-2
+element-copy-out-signed-2 c = search needs
+
+signed-requires-2 : tie.Need-signed-requires-2
+signed-requires-2 c κs = search needs
+
+returns : tie.Need-returns
+returns c = let a = c .before .before .before .before .before .before .args in let f : SFits w32 (a .position) = c .before .before .before .before .before .before .fits .position in let g : SFits w32 (c .before .before .before .signed .result) = search needs in let h : SFits w32 (c .signed2 .result) = search needs in simp (toZ-ofZ f, toZ-ofZ g, toZ-ofZ h) (simp (c .before .before .before .before .before .yes .ensures, c .before .before .before .signed .ensures, c .signed2 .ensures))
+
+pub given-from-spec : {M : Type 1} → statement M
+given-from-spec =
+    tie.close
+    (tie.spec
+    yes-requires
+    element-copy-out-signed
+    signed-requires
+    element-copy-out-t13
+    element-copy-out-signed-2
+    signed-requires-2
+    returns)

@@ -7,6 +7,7 @@ use Rattle.machine_data.specs.declared.MachineData.{MachineData}
 use Rattle.distance.specs.declared.Previous.the-variants.{Absent, At}
 use Rattle.report.specs.Report.{nextK}
 use Rattle.speed.specs.Speed.{slower}
+use Rattle.rank.specs.declared.Rank.{Rank}
 use Rattle.stop.specs.declared.Stop.the-variants.{Cancelled}
 use Rattle.stop.specs.Stop.{stopNext}
 use Rattle.comparison.specs.Comparison.{clearedFault}
@@ -23,13 +24,9 @@ use Rattle.advance.specs.declared.Advanced.{Advanced}
 abbrev pub unusableNext : ℕ → State → State
 unusableNext count s = record { k = nextK count (s .k); kept = s .kept; stop = Cancelled; previous = Absent }
 
--- "A cycle clears if it is acknowledged and has no fresh cause"
-abbrev pub clearsBy : Given → Summary → Bool
-clearsBy g x = g .acknowledged && not (x .fresh)
-
--- steps 5 and 6
-abbrev pub nextBy : MachineData → State → Given → Findings → State
-nextBy m s g f =
+-- steps 5 and 6, by what steps 2 to 4 found, whether the cycle clears, and the strongest cause
+abbrev pub usableNext : MachineData → State → Given → Findings → Bool → Rank → State
+usableNext m s g f clears strongest =
     record {
       k = nextK (m .count) (s .k);
       kept =
@@ -37,13 +34,19 @@ nextBy m s g f =
             cams = camsNext (m .values) (g .reading .position) (s .kept .cams);
             choice = f .choice;
             differing = f .differing;
-            fault = clearedFault (clearsBy g (f .summary)) (f .fault);
+            fault = clearedFault clears (f .fault);
           };
-      stop =
-          stopNext (m .values) (clearsBy g (f .summary)) (f .summary .strongest) (slower (m .values) (f .moved) 33) (g .reading .position)
-          (s .stop);
+      stop = stopNext (m .values) clears strongest (slower (m .values) (f .moved) 33) (g .reading .position) (s .stop);
       previous = At (g .reading .position);
     }
+
+-- "A cycle clears if it is acknowledged and has no fresh cause"
+abbrev pub clearsBy : Given → Summary → Bool
+clearsBy g x = g .acknowledged && not (x .fresh)
+
+-- the state after a usable cycle
+abbrev pub nextBy : MachineData → State → Given → Findings → State
+nextBy m s g f = usableNext m s g f (clearsBy g (f .summary)) (f .summary .strongest)
 
 -- the word of a state
 abbrev pub shownWord : List ℤ → State → Bool → ℕ

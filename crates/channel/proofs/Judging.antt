@@ -18,11 +18,11 @@ use Rattle.channel.specs.Ensures.{AdvanceEnsures, CycledEnsures}
 
 module _ (m : MachineData) (s : State) (g : Given) where
   pub usable-cycle : usableOf m (g .reading) ≡ true → AdvanceEnsures m s g (advancedBy m s g (findingsOf m s g))
-  unfolding findingsOf rowsOf strongestIn clearsIn next word summaryOf
+  unfolding rowsOf strongestIn clearsIn next word summaryOf
   usable-cycle u = record { state = simp u; word-is = simp u }
 
   usable-lists : usableOf m (g .reading) ≡ true → Lists (rowsOf m s g) (listedIf (findingsOf m s g .summary .any) (findingsOf m s g .rows))
-  unfolding findingsOf usableRows rowsOf summaryOf
+  unfolding usableRows rowsOf summaryOf
   usable-lists u = simp u (lists-if (usableRows m s g) (omega arith))
 
   pub unusable-cycle : usableOf m (g .reading) ≡ false → AdvanceEnsures m s g (advancedUnusable m s)

@@ -1,22 +1,16 @@
 -- A channel's state over a cycle: document 01, steps 1, 5 and 6.
-use Prim.Native.Nat.{ℕ}
 use mathlib.Core.Bool.{Bool, not, cond, _&&_}
 use Rattle.machine_data.specs.declared.MachineData.{MachineData}
-use Rattle.distance.specs.declared.Previous.the-variants.{At}
 use Rattle.inputs.specs.Usable.{usableOf}
-use Rattle.report.specs.Report.{nextK}
-use Rattle.speed.specs.Speed.{slower}
 use Rattle.rank.specs.declared.Rank.{Rank}
 use Rattle.rank.specs.declared.Rank.the-variants.{None}
-use Rattle.stop.specs.Stop.{stopNext, entersOf}
-use Rattle.comparison.specs.Comparison.{clearedFault}
-use Rattle.cams.specs.Cams.{camsNext}
+use Rattle.stop.specs.Stop.{entersOf}
 use Rattle.causes.specs.Causes.{strongestOf, freshOf}
 use Rattle.state.specs.declared.State.{State}
 use Rattle.state.specs.declared.Given.{Given}
 use Rattle.state.specs.State.{freshState}
-use Rattle.judge.specs.Causes.{movedIn, choiceIn, differingIn, faultIn, rowsOf}
-use Rattle.advance.specs.After.{unusableNext}
+use Rattle.judge.specs.Causes.{rowsOf, findingsOf}
+use Rattle.advance.specs.After.{unusableNext, usableNext}
 use Rattle.channel.specs.declared.Channel.{Channel}
 
 -- "The working channel starts fresh, with an accepted list"
@@ -39,25 +33,9 @@ clearsIn m s g = g .acknowledged && not (freshOf (rowsOf m s g))
 unfoldable pub enteredIn : MachineData → State → Given → Rank
 enteredIn m s g = cond (entersOf (clearsIn m s g) (strongestIn m s g) (s .stop)) (strongestIn m s g) None
 
--- steps 5 and 6, by what steps 2 to 4 found
-abbrev pub usableNext : MachineData → State → Given → Bool → Rank → State
-usableNext m s g clears strongest =
-    record {
-      k = nextK (m .count) (s .k);
-      kept =
-          record {
-            cams = camsNext (m .values) (g .reading .position) (s .kept .cams);
-            choice = choiceIn m s g;
-            differing = differingIn s g;
-            fault = clearedFault clears (faultIn m s g);
-          };
-      stop = stopNext (m .values) clears strongest (slower (m .values) (movedIn s g) 33) (g .reading .position) (s .stop);
-      previous = At (g .reading .position);
-    }
-
 -- the state after a cycle
 unfoldable pub next : MachineData → State → Given → State
 next m s g =
     cond (usableOf m (g .reading))
-    (usableNext m s g (clearsIn m s g) (strongestIn m s g))
+    (usableNext m s g (findingsOf m s g) (clearsIn m s g) (strongestIn m s g))
     (unusableNext (m .count) s)

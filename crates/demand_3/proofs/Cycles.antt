@@ -22,11 +22,11 @@ use Rattle.causes.specs.declared.Cause.{Cause}
 use Rattle.causes.specs.Causes.{freshOf, cause}
 use Rattle.state.specs.declared.State.{State}
 use Rattle.state.specs.declared.Given.{Given}
-use Rattle.judge.specs.Causes.{choiceIn, differencesIn, anyDiffers, faultIn, usableRows, rowsOf}
+use Rattle.judge.specs.Causes.{choiceIn, differencesIn, anyDiffers, faultIn, usableRows, rowsOf, findingsOf}
 use Rattle.state.specs.State.{freshState}
 use Rattle.report.specs.Report.{nextK}
-use Rattle.advance.specs.After.{unusableNext}
-use Rattle.channel.specs.Cycle.{strongestIn, clearsIn, enteredIn, usableNext, next}
+use Rattle.advance.specs.After.{unusableNext, usableNext}
+use Rattle.channel.specs.Cycle.{strongestIn, clearsIn, enteredIn, next}
 use Rattle.demand_3.specs.Claims.{causeOf, sgLessOne}
 use Rattle.laws.proofs.Bools.{if-case, not-both, or-left}
 use Rattle.demand_2.proofs.Demand2.{no-weaker, cause-met}
@@ -108,7 +108,7 @@ module _ (m : MachineData) (s : State) (g : Given) where
   -- ---- the state after a cycle
 
   -- the cases of a cycle
-  by-cycle : (P : State → Type 0) → (usableOf m (g .reading) ≡ true → P (usableNext m s g (clearsIn m s g) (strongestIn m s g))) →
+  by-cycle : (P : State → Type 0) → (usableOf m (g .reading) ≡ true → P (usableNext m s g (findingsOf m s g) (clearsIn m s g) (strongestIn m s g))) →
       (usableOf m (g .reading) ≡ false → P (unusableNext (m .count) s)) → P (next m s g)
   unfolding next
   by-cycle P f h = if-case P (usableOf m (g .reading)) _ _ f h
@@ -167,7 +167,7 @@ module _ (m : MachineData) (s : State) (g : Given) where
     where
       go : (b : Bool) → usableOf m (g .reading) ≡ b → Alarmed (next m s g)
       go true u =
-          let k : levelOf (s .stop) ≤ levelOf (usableNext m s g (clearsIn m s g) (strongestIn m s g) .stop) = simp u at (no-weaker m s g e) in
+          let k : levelOf (s .stop) ≤ levelOf (usableNext m s g (findingsOf m s g) (clearsIn m s g) (strongestIn m s g) .stop) = simp u at (no-weaker m s g e) in
           simp (u, e)
           (record {
             lights = λ t. omega (arith, lit-in .lights (differs-10 t) (q .left));

@@ -87,7 +87,7 @@ unfoldable pub rowsOf : MachineData → State → Given → List Cause
 rowsOf m s g = cond (usableOf m (g .reading)) (usableRows m s g) (cause 1 true R.A ∷ [])
 
 -- what steps 2 to 4 come to in a usable cycle
-unfoldable pub findingsOf : MachineData → State → Given → Findings
+abbrev pub findingsOf : MachineData → State → Given → Findings
 findingsOf m s g =
     record {
       moved = movedIn s g;

@@ -10,8 +10,9 @@ use Rattle.seven.specs.declared.CycleRecord.{CycleRecord}
 use Rattle.state.specs.declared.State.{State}
 use Rattle.state.specs.declared.Given.{Given}
 use Rattle.report.specs.Report.{nextK}
-use Rattle.advance.specs.After.{unusableNext}
-use Rattle.channel.specs.Cycle.{clearsIn, strongestIn, usableNext, next}
+use Rattle.judge.specs.Causes.{findingsOf}
+use Rattle.advance.specs.After.{unusableNext, usableNext}
+use Rattle.channel.specs.Cycle.{clearsIn, strongestIn, next}
 use Rattle.log.specs.Run.{givenA, givenB, Both, deviceCycle, lastOf, linesOf}
 use Rattle.log.specs.Alone.{lastAlone, wordsAlone}
 use Rattle.log.proofs.Thirds.{tripled}
@@ -20,7 +21,7 @@ next-k : (d : MachineData) (s : State) (g : Given) → next d s g .k ≡ nextK (
 unfolding next
 next-k d s g = go (usableOf d (g .reading))
   where
-    go : (t : Bool) → cond t (usableNext d s g (clearsIn d s g) (strongestIn d s g)) (unusableNext (d .count) s) .k ≡ nextK (d .count) (s .k)
+    go : (t : Bool) → cond t (usableNext d s g (findingsOf d s g) (clearsIn d s g) (strongestIn d s g)) (unusableNext (d .count) s) .k ≡ nextK (d .count) (s .k)
     go true = refl
     go false = refl
 

@@ -6,7 +6,7 @@ use mathlib.Core.Path.{_≡_, ap, _∙_}
 use denote.Ref.{now}
 use Rattle.machine_data.specs.Data.{lent}
 use Rattle.causes.specs.Causes.{summaryOf}
-use Rattle.judge.specs.Causes.{movedIn, choiceIn, differingIn, differencesIn, faultIn, usableRows, findingsOf}
+use Rattle.judge.specs.Causes.{movedIn, choiceIn, differingIn, differencesIn, faultIn, usableRows}
 use borrow.Author.Needs.{needs}
 use Rattle.judge.proofs.judge.Statement.{statement}
 use Rattle.judge.proofs.judge.Tie as tie
@@ -51,7 +51,7 @@ position-fits : (c : tie.Start) → SFits w32 (c .args .given .reading .position
 position-fits c = search needs
 
 returns : tie.Need-returns
-unfolding choiceIn differingIn differencesIn faultIn usableRows findingsOf
+unfolding choiceIn differingIn differencesIn faultIn usableRows
 returns c =
     let a = c .before .before .before .before .before .before .before .before .before .before .before .before .before .before .before .before .before .before .args in
     let m = lent (now (a .values)) (a .count) in

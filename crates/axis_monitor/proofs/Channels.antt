@@ -4,24 +4,28 @@ use mathlib.Core.List.{List}
 use Prim.Native.Nat.{ℕ, _<_}
 use lib.IntN.{ℤ}
 use Rattle.machine_data.specs.Data.{lent}
+use Rattle.causes.specs.declared.Causes.{Causes}
 use Rattle.causes.specs.Codes.{Lists}
 use Rattle.state.specs.declared.Given.{Given}
 use Rattle.judge.specs.Causes.{rowsOf}
-use Rattle.channel.specs.declared.Cycled.{Cycled}
-use Rattle.channel.specs.Ensures.{CycledEnsures}
+use Rattle.advance.specs.declared.Advanced.{Advanced}
+use Rattle.channel.specs.Ensures.{AdvanceEnsures}
 use Rattle.image.specs.Image.{countFrom, listFrom, stateFrom, stateWords}
 use Rattle.image.proofs.Channels.{written}
 use Rattle.axis_monitor.specs.Ensures.{LeaveEnsures, CycleEnsures}
 
 module _ (values : List ℤ) (w : List ℕ) (g : Given) where
-  pub cycled : {count : ℕ} {r : Cycled} {n : ℕ} {w′ codes′ : List ℕ} → count ≡ countFrom w → count < 4294967296 →
-      CycledEnsures (lent values count) (stateFrom w) g r → LeaveEnsures count r n w′ codes′ → CycleEnsures values w g n w′ codes′
-  cycled {count} {r} is small e left =
-      let same : CycledEnsures (lent values (countFrom w)) (stateFrom w) g r = subst (λ (n : ℕ). CycledEnsures (lent values n) (stateFrom w) g r) is e in
+  pub cycled : {count : ℕ} {r : Advanced} {list : Causes} {n : ℕ} {w′ codes′ : List ℕ} → count ≡ countFrom w → count < 4294967296 →
+      AdvanceEnsures (lent values count) (stateFrom w) g r → Lists (rowsOf (lent values count) (stateFrom w) g) list → LeaveEnsures count r list n w′ codes′ → CycleEnsures values w g n w′ codes′
+  cycled {count} {r} {list} is small e lists left =
+      let same : AdvanceEnsures (listFrom values w) (stateFrom w) g r = subst (λ (n : ℕ). AdvanceEnsures (lent values n) (stateFrom w) g r) is e in
+      let rows = rowsOf (listFrom values w) (stateFrom w) g in
       record {
         word-is = left .word-is ∙ same .word-is;
         state-left = left .state .words ∙ (λ i. stateWords (is i) (same .state i));
         channel = written values count (r .state) small (left .state) ∙ (λ i. record { list = lent values (is i); state = same .state i });
-        many = r .causes .count;
-        causes = subst (λ (codes : List ℕ). Lists (rowsOf (listFrom values w) (stateFrom w) g) (record { codes = codes; count = r .causes .count })) (sym (left .codes)) (same .causes);
+        many = list .count;
+        causes =
+            subst (λ (codes : List ℕ). Lists rows (record { codes = codes; count = list .count })) (sym (left .codes))
+            (subst (λ (n : ℕ). Lists (rowsOf (lent values n) (stateFrom w) g) list) is lists);
       }

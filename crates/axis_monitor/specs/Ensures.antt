@@ -8,11 +8,12 @@ use Rattle.report.specs.declared.Report.{Report}
 use Rattle.report.specs.Report.{reportOf}
 use Rattle.list.specs.declared.ListAnswer.the-variants.{Accepted}
 use Rattle.list.specs.Reading.{readList}
+use Rattle.causes.specs.declared.Causes.{Causes}
 use Rattle.causes.specs.Codes.{Lists}
 use Rattle.state.specs.State.{freshState}
 use Rattle.state.specs.declared.Given.{Given}
 use Rattle.judge.specs.Causes.{rowsOf}
-use Rattle.channel.specs.declared.Cycled.{Cycled}
+use Rattle.advance.specs.declared.Advanced.{Advanced}
 use Rattle.channel.specs.Cycle.{freshChannel, withState, next}
 use Rattle.channel.specs.Word.{word}
 use Rattle.image.specs.Image.{countFrom, listFrom, stateFrom, stateWords, channelFrom}
@@ -47,7 +48,7 @@ pub record CycleEnsures (values : List ℤ) (state : List ℕ) (g : Given) (w : 
 
 -- ---- of the private function: what a cycle leaves
 
-pub record LeaveEnsures (count : ℕ) (r : Cycled) (w : ℕ) (state′ codes′ : List ℕ) : Type 0 where
+pub record LeaveEnsures (count : ℕ) (r : Advanced) (list : Causes) (w : ℕ) (state′ codes′ : List ℕ) : Type 0 where
   pub word-is : w ≡ r .word
   pub state : WordsEnsures count (r .state) state′
-  pub codes : codes′ ≡ r .causes .codes
+  pub codes : codes′ ≡ list .codes

@@ -6,8 +6,9 @@ ghost use Rattle.device.specs.Device.{deviceOf};
 ghost use Rattle.crossing_reports.specs.Reports.{givenFrom};
 ghost use Rattle.axis_monitor.specs.Crossing.{interfaceNumber};
 ghost use Rattle.axis_monitor.specs.Ensures.{ReadListEnsures, ReportEnsures, LeaveEnsures, CycleEnsures};
+use advance::Advanced;
 use causes::CODES;
-use channel::Cycled;
+use causes::Causes;
 use crossing_reports::ReportWords;
 use image::Image;
 use inputs::Reading;
@@ -71,15 +72,20 @@ pub extern "C" fn monitor_report(
 }
 
 // What a cycle leaves in the caller's memory, and its word.
-fn leave(count: usize, cycled: Cycled, state: &mut Image, causes: &mut Codes) -> u32
-    ensures { λ r. ⌜ LeaveEnsures count cycled r (now (state .exit)) (now (causes .exit)) ⌝ }
+fn leave(
+    count: usize,
+    advanced: Advanced,
+    list: Causes,
+    state: &mut Image,
+    causes: &mut Codes,
+) -> u32
+    ensures { λ r. ⌜ LeaveEnsures count advanced list r (now (state .exit)) (now (causes .exit)) ⌝ }
 {
-    let after = cycled.state;
-    let list = cycled.causes;
+    let after = advanced.state;
     let codes = list.codes;
     *state = image::words_of(count, after);
     *causes = codes;
-    cycled.word
+    advanced.word
 }
 
 // A cycle: the channel word, with the state after it and the codes that stand. Each of the two ways writes what it leaves by
@@ -100,11 +106,20 @@ pub extern "C" fn monitor_cycle(
     let count = image::count_of(state);
     let before = image::state_from(state);
     if inputs::usable(values, count, given.reading) {
-        let cycled = channel::usable_cycle(values, count, before, given);
-        leave(count, cycled, state, causes)
+        let findings = judge::judge(values, count, before, given);
+        let rows = findings.rows;
+        let summary = findings.summary;
+        let advanced = advance::found(values, count, before, given, findings);
+        leave(
+            count,
+            advanced,
+            Causes::of(rows, summary.any),
+            state,
+            causes,
+        )
     } else {
-        let cycled = channel::unusable_cycle(values, count, before);
-        leave(count, cycled, state, causes)
+        let idle = advance::skipped(values, count, before);
+        leave(count, idle, Causes::unusable(), state, causes)
     }
 }
 

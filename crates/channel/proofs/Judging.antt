@@ -13,15 +13,14 @@ use Rattle.judge.specs.Causes.{usableRows, rowsOf, findingsOf}
 use Rattle.channel.specs.Cycle.{strongestIn, clearsIn, next}
 use Rattle.advance.specs.After.{advancedBy, advancedUnusable}
 use Rattle.channel.specs.Word.{word}
-use Rattle.channel.specs.Cycled.{usableCycled, unusableCycled}
-use Rattle.channel.specs.Ensures.{AdvanceEnsures, CycledEnsures}
+use Rattle.channel.specs.Ensures.{AdvanceEnsures}
 
 module _ (m : MachineData) (s : State) (g : Given) where
   pub usable-cycle : usableOf m (g .reading) ≡ true → AdvanceEnsures m s g (advancedBy m s g (findingsOf m s g))
   unfolding rowsOf strongestIn clearsIn next word summaryOf
   usable-cycle u = record { state = simp u; word-is = simp u }
 
-  usable-lists : usableOf m (g .reading) ≡ true → Lists (rowsOf m s g) (listedIf (findingsOf m s g .summary .any) (findingsOf m s g .rows))
+  pub usable-lists : usableOf m (g .reading) ≡ true → Lists (rowsOf m s g) (listedIf (findingsOf m s g .summary .any) (findingsOf m s g .rows))
   unfolding usableRows rowsOf summaryOf
   usable-lists u = simp u (lists-if (usableRows m s g) (omega arith))
 
@@ -29,12 +28,6 @@ module _ (m : MachineData) (s : State) (g : Given) where
   unfolding next word
   unusable-cycle u = record { state = simp u; word-is = simp u }
 
-  unusable-lists : usableOf m (g .reading) ≡ false → Lists (rowsOf m s g) (pushed 1 noCauses)
+  pub unusable-lists : usableOf m (g .reading) ≡ false → Lists (rowsOf m s g) (pushed 1 noCauses)
   unfolding rowsOf listTo
   unusable-lists u = simp u (lists _ (omega arith))
-
-  pub usable-cycled : usableOf m (g .reading) ≡ true → CycledEnsures m s g (usableCycled m s g)
-  usable-cycled u = record { state = usable-cycle u .state; word-is = usable-cycle u .word-is; causes = usable-lists u }
-
-  pub unusable-cycled : usableOf m (g .reading) ≡ false → CycledEnsures m s g (unusableCycled m s)
-  unusable-cycled u = record { state = unusable-cycle u .state; word-is = unusable-cycle u .word-is; causes = unusable-lists u }

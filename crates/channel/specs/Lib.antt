@@ -1,4 +1,3 @@
 pub mod Cycle
 pub mod Word
-pub mod Cycled
 pub mod Ensures

@@ -2,7 +2,6 @@
 ghost use mathlib.Core.Path.{_≡_};
 ghost use Rattle.machine_data.specs.Data.{lent};
 ghost use Rattle.channel.specs.Cycle.{freshChannel, withState};
-ghost use Rattle.channel.specs.Cycled.{usableCycled, unusableCycled};
 ghost use Rattle.channel.specs.Ensures.{AdvanceEnsures, CycledEnsures, CycleEnsures};
 use advance::Advanced;
 use causes::Causes;
@@ -61,43 +60,29 @@ pub fn with_state(channel: Channel, state: State) -> Channel
     Channel { list, state }
 }
 
-// A cycle whose inputs can be used: steps 2 to 6, with the causes.
-pub fn usable_cycle(values: &Values, count: usize, state: State, given: Given) -> Cycled
-    ensures { λ r. ⌜ r ≡ usableCycled (lent (now (values .entry)) count) state given ⌝ }
-{
-    let findings = judge::judge(values, count, state, given);
-    let rows = findings.rows;
-    let summary = findings.summary;
-    let advanced = advance::found(values, count, state, given, findings);
-    let after = advanced.state;
-    Cycled {
-        state: after,
-        word: advanced.word,
-        causes: Causes::of(rows, summary.any),
-    }
-}
-
-// A cycle whose inputs cannot be used.
-pub fn unusable_cycle(values: &Values, count: usize, state: State) -> Cycled
-    ensures { λ r. ⌜ r ≡ unusableCycled (lent (now (values .entry)) count) state ⌝ }
-{
-    let idle = advance::skipped(values, count, state);
-    let after = idle.state;
-    Cycled {
-        state: after,
-        word: idle.word,
-        causes: Causes::unusable(),
-    }
-}
-
 // A cycle of a state beside its data, with no copy of them.
 fn cycle_on(values: &Values, count: usize, state: State, given: Given) -> Cycled
     ensures { λ r. ⌜ CycledEnsures (lent (now (values .entry)) count) state given r ⌝ }
 {
     if inputs::usable(values, count, given.reading) {
-        usable_cycle(values, count, state, given)
+        let findings = judge::judge(values, count, state, given);
+        let rows = findings.rows;
+        let summary = findings.summary;
+        let advanced = advance::found(values, count, state, given, findings);
+        let after = advanced.state;
+        Cycled {
+            state: after,
+            word: advanced.word,
+            causes: Causes::of(rows, summary.any),
+        }
     } else {
-        unusable_cycle(values, count, state)
+        let idle = advance::skipped(values, count, state);
+        let after = idle.state;
+        Cycled {
+            state: after,
+            word: idle.word,
+            causes: Causes::unusable(),
+        }
     }
 }
 

@@ -1,13 +1,16 @@
 -- `axis_monitor::monitor_cycle` meets its contract: each way is a cycle's, and leaves what that cycle leaves. Assumes nothing.
-use mathlib.Core.Path.{_≡_, sym, _∙_, subst}
+use mathlib.Core.Path.{_≡_, sym, ap, _∙_, subst}
 use mathlib.Core.Bool.{true, false}
 use mir.Facts.{toZ-ofZ}
 use denote.Ref.{now}
 use Rattle.machine_data.specs.Data.{lent}
 use Rattle.inputs.specs.Usable.{usableOf}
-use Rattle.channel.specs.Cycled.{usableCycled, unusableCycled}
-use Rattle.channel.specs.Ensures.{CycledEnsures}
-use Rattle.channel.proofs.Judging.{usable-cycled, unusable-cycled}
+use Rattle.causes.specs.Codes.{Lists, listedIf}
+use Rattle.judge.specs.declared.Findings.{Findings}
+use Rattle.judge.specs.Causes.{rowsOf, findingsOf}
+use Rattle.advance.specs.After.{advancedBy, advancedUnusable}
+use Rattle.channel.specs.Ensures.{AdvanceEnsures}
+use Rattle.channel.proofs.Judging.{usable-cycle, usable-lists, unusable-cycle, unusable-lists}
 use Rattle.image.specs.Image.{stateFrom}
 use Rattle.crossing_reports.specs.Reports.{givenFrom}
 use Rattle.axis_monitor.proofs.Channels.{cycled}
@@ -27,45 +30,63 @@ state-from-requires c κs = search needs
 usable-requires : tie.Need-usable-requires
 usable-requires c κs = search needs
 
-usable-cycle-requires : tie.Need-usable-cycle-requires
-usable-cycle-requires c κs = search needs
+judge-requires : tie.Need-judge-requires
+judge-requires c κs = search needs
+
+found-requires : tie.Need-found-requires
+found-requires c κs = search needs
+
+of-requires : tie.Need-of-requires
+of-requires c κs = search needs
 
 leave-requires : tie.Need-leave-requires
 leave-requires c κs = search needs
 
-unusable-cycle-requires : tie.Need-unusable-cycle-requires
-unusable-cycle-requires c κs = search needs
+skipped-requires : tie.Need-skipped-requires
+skipped-requires c κs = search needs
+
+unusable-requires : tie.Need-unusable-requires
+unusable-requires c κs = search needs
 
 leave-requires-2 : tie.Need-leave-requires-2
 leave-requires-2 c κs = search needs
 
 returns : tie.Need-returns
 returns c =
-    let start = c .before .before .before .before .before .before .before .before .before .before .before in
+    let start = c .before .before .before .before .before .before .before .before .before .before .before .before .before .before .before in
     let a = start .args in
     let values = now (a .values) in
     let w = now (a .state) in
-    let count = c .before .before .before .before .before .before .before .before .count-of in
+    let count = c .before .before .before .before .before .before .before .before .before .before .before .before .count-of in
     let m = lent values (count .result) in
+    let s = stateFrom w in
     let g = givenFrom (a .position) (a .inputs) (a .acknowledged) (now (a .report)) in
-    let given : c .before .before .before .before .before .before .before .before .before .before .given-from .result ≡ g = c .before .before .before .before .before .before .before .before .before .before .given-from .ensures ∙ simp (toZ-ofZ (start .fits .position)) in
-    let u : usableOf m (g .reading) ≡ true = simp given at (sym (c .before .before .before .before .before .usable .ensures) ∙ c .before .before .before .before .if1 .taken) in
-    let cycle : c .before .before .before .usable-cycle .result ≡ usableCycled m (stateFrom w) g = simp (c .before .before .before .before .before .before .state-from .ensures, given) at (c .before .before .before .usable-cycle .ensures) in
-    cycled values w g (count .ensures .0) (count .ensures .1) (subst (CycledEnsures m (stateFrom w) g) (sym cycle) (usable-cycled m (stateFrom w) g u)) (c .leave .ensures)
+    let given : c .before .before .before .before .before .before .before .before .before .before .before .before .before .before .given-from .result ≡ g = c .before .before .before .before .before .before .before .before .before .before .before .before .before .before .given-from .ensures ∙ simp (toZ-ofZ (start .fits .position)) in
+    let u : usableOf m (g .reading) ≡ true = simp given at (sym (c .before .before .before .before .before .before .before .before .before .usable .ensures) ∙ c .before .before .before .before .before .before .before .before .if1 .taken) in
+    let judged : c .before .before .before .before .before .before .before .judge .result ≡ findingsOf m s g = simp (c .before .before .before .before .before .before .before .before .before .before .state-from .ensures, given) at (c .before .before .before .before .before .before .before .judge .ensures) in
+    let found : c .before .before .before .before .found .result ≡ advancedBy m s g (c .before .before .before .before .before .before .before .judge .result) = simp (c .before .before .before .before .before .before .before .before .before .before .state-from .ensures, given) at (c .before .before .before .before .found .ensures) in
+    cycled values w g (count .ensures .0) (count .ensures .1)
+    (subst (AdvanceEnsures m s g) (sym (found ∙ ap (advancedBy m s g) judged)) (usable-cycle m s g u))
+    (subst (Lists (rowsOf m s g)) (sym (c .before .before .before .of .ensures ∙ ap (λ (f : Findings). listedIf (f .summary .any) (f .rows)) judged)) (usable-lists m s g u))
+    (c .leave .ensures)
 
 returns-2 : tie.Need-returns-2
 returns-2 c =
-    let start = c .before .before .before .before .before .before .before .before .before .before .before in
+    let start = c .before .before .before .before .before .before .before .before .before .before .before .before in
     let a = start .args in
     let values = now (a .values) in
     let w = now (a .state) in
-    let count = c .before .before .before .before .before .before .before .before .count-of in
+    let count = c .before .before .before .before .before .before .before .before .before .count-of in
     let m = lent values (count .result) in
+    let s = stateFrom w in
     let g = givenFrom (a .position) (a .inputs) (a .acknowledged) (now (a .report)) in
-    let given : c .before .before .before .before .before .before .before .before .before .before .given-from .result ≡ g = c .before .before .before .before .before .before .before .before .before .before .given-from .ensures ∙ simp (toZ-ofZ (start .fits .position)) in
-    let u : usableOf m (g .reading) ≡ false = simp given at (sym (c .before .before .before .before .before .usable .ensures) ∙ c .before .before .before .before .if1 .left) in
-    let cycle : c .before .before .before .unusable-cycle .result ≡ unusableCycled m (stateFrom w) = simp (c .before .before .before .before .before .before .state-from .ensures) at (c .before .before .before .unusable-cycle .ensures) in
-    cycled values w g (count .ensures .0) (count .ensures .1) (subst (CycledEnsures m (stateFrom w) g) (sym cycle) (unusable-cycled m (stateFrom w) g u)) (c .leave2 .ensures)
+    let given : c .before .before .before .before .before .before .before .before .before .before .before .given-from .result ≡ g = c .before .before .before .before .before .before .before .before .before .before .before .given-from .ensures ∙ simp (toZ-ofZ (start .fits .position)) in
+    let u : usableOf m (g .reading) ≡ false = simp given at (sym (c .before .before .before .before .before .before .usable .ensures) ∙ c .before .before .before .before .before .if1 .left) in
+    let skipped : c .before .before .before .before .skipped .result ≡ advancedUnusable m s = simp (c .before .before .before .before .before .before .before .state-from .ensures) at (c .before .before .before .before .skipped .ensures) in
+    cycled values w g (count .ensures .0) (count .ensures .1)
+    (subst (AdvanceEnsures m s g) (sym skipped) (unusable-cycle m s g u))
+    (subst (Lists (rowsOf m s g)) (sym (c .before .before .before .unusable .ensures)) (unusable-lists m s g u))
+    (c .leave2 .ensures)
 
 pub monitor-cycle-spec : {M : Type 1} → statement M
 monitor-cycle-spec =
@@ -75,9 +96,12 @@ monitor-cycle-spec =
     count-of-requires
     state-from-requires
     usable-requires
-    usable-cycle-requires
+    judge-requires
+    found-requires
+    of-requires
     leave-requires
-    unusable-cycle-requires
+    skipped-requires
+    unusable-requires
     leave-requires-2
     returns
     returns-2)

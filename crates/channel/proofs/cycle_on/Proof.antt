@@ -1,10 +1,15 @@
--- `channel::cycle_on` meets its contract: each way is the definition's. Assumes nothing.
-use mathlib.Core.Path.{_≡_, sym, _∙_, subst}
+-- `channel::cycle_on` meets its contract: what is found is what steps 2 to 4 find, and the list of causes is that of the same rows. Assumes nothing.
+use mathlib.Core.Path.{_≡_, sym, ap, _∙_, subst}
 use mathlib.Core.Bool.{true, false}
 use denote.Ref.{now}
 use Rattle.machine_data.specs.Data.{lent}
-use Rattle.channel.specs.Ensures.{CycledEnsures}
-use Rattle.channel.proofs.Judging.{usable-cycled, unusable-cycled}
+use Rattle.inputs.specs.Usable.{usableOf}
+use Rattle.causes.specs.Codes.{Lists, listedIf}
+use Rattle.judge.specs.declared.Findings.{Findings}
+use Rattle.judge.specs.Causes.{rowsOf}
+use Rattle.advance.specs.After.{advancedBy}
+use Rattle.channel.specs.Ensures.{AdvanceEnsures}
+use Rattle.channel.proofs.Judging.{usable-cycle, usable-lists, unusable-cycle, unusable-lists}
 use borrow.Author.Needs.{needs}
 use Rattle.channel.proofs.cycle_on.Statement.{statement}
 use Rattle.channel.proofs.cycle_on.Tie as tie
@@ -12,19 +17,50 @@ use Rattle.channel.proofs.cycle_on.Tie as tie
 usable-requires : tie.Need-usable-requires
 usable-requires c κs = search needs
 
-usable-cycle-requires : tie.Need-usable-cycle-requires
-usable-cycle-requires c κs = search needs
+judge-requires : tie.Need-judge-requires
+judge-requires c κs = search needs
 
-unusable-cycle-requires : tie.Need-unusable-cycle-requires
-unusable-cycle-requires c κs = search needs
+found-requires : tie.Need-found-requires
+found-requires c κs = search needs
+
+of-requires : tie.Need-of-requires
+of-requires c κs = search needs
+
+skipped-requires : tie.Need-skipped-requires
+skipped-requires c κs = search needs
+
+unusable-requires : tie.Need-unusable-requires
+unusable-requires c κs = search needs
 
 returns : tie.Need-returns
-returns c = let a = c .before .before .before .args in let m = lent (now (a .values)) (a .count) in
-    subst (CycledEnsures m (a .state) (a .given)) (sym (c .usable-cycle .ensures)) (usable-cycled m (a .state) (a .given) (sym (c .before .before .usable .ensures) ∙ c .before .if1 .taken))
+returns c = let a = c .before .before .before .before .before .before .before .before .args in let m = lent (now (a .values)) (a .count) in let s = a .state in
+    let u : usableOf m (a .given .reading) ≡ true = sym (c .before .before .before .before .before .before .before .usable .ensures) ∙ c .before .before .before .before .before .before .if1 .taken in
+    let e : AdvanceEnsures m s (a .given) (c .before .before .found .result) = subst (AdvanceEnsures m s (a .given)) (sym (c .before .before .found .ensures ∙ ap (advancedBy m s (a .given)) (c .before .before .before .before .before .judge .ensures))) (usable-cycle m s (a .given) u) in
+    record {
+      state = e .state;
+      word-is = e .word-is;
+      causes = subst (Lists (rowsOf m s (a .given))) (sym (c .of .ensures ∙ ap (λ (f : Findings). listedIf (f .summary .any) (f .rows)) (c .before .before .before .before .before .judge .ensures))) (usable-lists m s (a .given) u);
+    }
 
 returns-2 : tie.Need-returns-2
-returns-2 c = let a = c .before .before .before .args in let m = lent (now (a .values)) (a .count) in
-    subst (CycledEnsures m (a .state) (a .given)) (sym (c .unusable-cycle .ensures)) (unusable-cycled m (a .state) (a .given) (sym (c .before .before .usable .ensures) ∙ c .before .if1 .left))
+returns-2 c = let a = c .before .before .before .before .before .args in let m = lent (now (a .values)) (a .count) in let s = a .state in
+    let u : usableOf m (a .given .reading) ≡ false = sym (c .before .before .before .before .usable .ensures) ∙ c .before .before .before .if1 .left in
+    let e : AdvanceEnsures m s (a .given) (c .before .before .skipped .result) = subst (AdvanceEnsures m s (a .given)) (sym (c .before .before .skipped .ensures)) (unusable-cycle m s (a .given) u) in
+    record {
+      state = e .state;
+      word-is = e .word-is;
+      causes = subst (Lists (rowsOf m s (a .given))) (sym (c .unusable .ensures)) (unusable-lists m s (a .given) u);
+    }
 
 pub cycle-on-spec : {M : Type 1} → statement M
-cycle-on-spec = tie.close (tie.spec usable-requires usable-cycle-requires unusable-cycle-requires returns returns-2)
+cycle-on-spec =
+    tie.close
+    (tie.spec
+    usable-requires
+    judge-requires
+    found-requires
+    of-requires
+    skipped-requires
+    unusable-requires
+    returns
+    returns-2)

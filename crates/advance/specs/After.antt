@@ -36,7 +36,7 @@ usableNext m s g f clears strongest =
             differing = f .differing;
             fault = clearedFault clears (f .fault);
           };
-      stop = stopNext (m .values) clears strongest (slower (m .values) (f .moved) 33) (g .reading .position) (s .stop);
+      stop = stopNext (m .values) clears strongest (slower (m .values) (f .step) 33) (g .reading .position) (s .stop);
       previous = At (g .reading .position);
     }
 
@@ -55,7 +55,7 @@ shownWord d s slow = wordBy d (s .kept .choice .effective) (s .stop) (s .kept .f
 -- state and word of a usable cycle
 abbrev pub advancedBy : MachineData → State → Given → Findings → Advanced
 advancedBy m s g f =
-    record { state = nextBy m s g f; word = shownWord (m .values) (nextBy m s g f) (belowNx (m .values) (f .moved)) }
+    record { state = nextBy m s g f; word = shownWord (m .values) (nextBy m s g f) (belowNx (m .values) (f .step)) }
 
 -- of one that cannot be used; "n<nx shows 0 in an unusable cycle"
 abbrev pub advancedUnusable : MachineData → State → Advanced

@@ -40,7 +40,7 @@ fn usable(values: &Values, count: usize, state: State, given: Given, findings: F
     let summary = findings.summary;
     let strongest = summary.strongest;
     let clears = clears(given, summary);
-    let after = stop.next(values, clears, strongest, findings.moved, reading);
+    let after = stop.next(values, clears, strongest, findings.step, reading);
     State {
         k: report::next_k(count, state.k),
         kept: Kept {
@@ -90,7 +90,7 @@ pub fn found(
     ensures { λ r. ⌜ r ≡ advancedBy (lent (now (values .entry)) count) state given findings ⌝ }
 {
     let after = usable(values, count, state, given, findings);
-    let below_nx = channel_word::below_nx(values, findings.moved);
+    let below_nx = channel_word::below_nx(values, findings.step);
     Advanced {
         state: after,
         word: word(values, after, below_nx),

@@ -1,12 +1,10 @@
--- What reading a list leaves, by its answer; an accepted list has 51 data, a count that its word holds. Assumes nothing.
+-- What reading a list leaves, by its answer; the number of its data is one that a word holds. Assumes nothing.
 use mathlib.Core.Path.{_≡_, sym, ap, _∙_, subst}
 use mathlib.Core.List.{List}
 use Prim.Native.Nat.{ℕ, _<_}
 use native.Mathlib.Omega.{arith}
 use lib.IntN.{ℤ}
-use lib.Dec.{eqb→eq}
 use Rattle.laws.proofs.Never.{never}
-use Rattle.ranges.specs.Table.{dataCount}
 use Rattle.machine_data.specs.declared.MachineData.{MachineData}
 use Rattle.refusal.specs.declared.Refusal.{Refusal}
 use Rattle.refusal.specs.Refusal.{refusalNumber, refusalPlace}
@@ -15,6 +13,7 @@ use Rattle.list.specs.declared.ListAnswer.{ListAnswer}
 use Rattle.list.specs.declared.ListAnswer.the-variants.{Accepted, Refused}
 use Rattle.list.specs.IsList.{IsList, list}
 use Rattle.list.specs.Reading.{readList}
+use Rattle.list.proofs.Steps.{head-bounds}
 use Rattle.list.proofs.Accepts.{accepted, whole-answer}
 use Rattle.state.specs.declared.State.{State}
 use Rattle.state.specs.State.{freshState}
@@ -28,7 +27,7 @@ few-data : (words : List ℕ) (used : ℕ) → readList words .answer ≡ Accept
 few-data words used e = go (accepted words (readList words .list) used .0 (whole-answer words used e) .1)
   where
     go : {d : MachineData} {ws : List ℕ} → IsList d ws → d .count < 4294967296
-    go {d} (list w size x a b) = omega (arith, eqb→eq (d .count) dataCount size)
+    go {d} (list w size x values a b) = omega (arith, head-bounds (d .count) size .1)
 
 module _ (words : List ℕ) (values : List ℤ) (state : List ℕ) {read : ListRead} (is : read ≡ readList words) where
   pub taken : {used : ℕ} {s : State} {w : List ℕ} → read .answer ≡ Accepted used → s ≡ freshState → WordsEnsures (read .list .count) s w → ReadListEnsures words values state 0 (read .list .values) w used

@@ -7,9 +7,9 @@ use Rattle.channel_word.specs.Word.{belowNx}
 use Rattle.advance.specs.After.{shownWord}
 use Rattle.state.specs.declared.State.{State}
 use Rattle.state.specs.declared.Given.{Given}
-use Rattle.judge.specs.Causes.{movedIn}
+use Rattle.judge.specs.Causes.{stepIn}
 use Rattle.channel.specs.Cycle.{next}
 
 -- the word of a cycle; "n<nx shows 0 in an unusable cycle"
 unfoldable pub word : MachineData → State → Given → ℕ
-word m s g = shownWord (m .values) (next m s g) (usableOf m (g .reading) && belowNx (m .values) (movedIn s g))
+word m s g = shownWord (m .values) (next m s g) (usableOf m (g .reading) && belowNx (m .values) (stepIn m s g))

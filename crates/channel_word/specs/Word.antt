@@ -6,6 +6,7 @@ use lib.IntN.{ℤ}
 use lib.Dec.{eqb}
 use Rattle.bits.specs.Bits.{flag}
 use Rattle.machine_data.specs.Data.{functionOf}
+use Rattle.speed.specs.declared.Step.{Step}
 use Rattle.speed.specs.Speed.{slower}
 use Rattle.selection.specs.declared.Selection.{Selection}
 use Rattle.selection.specs.declared.Selection.the-variants.{Nothing, Sg, Sbh}
@@ -54,8 +55,8 @@ abbrev pub shownCams : List ℤ → ℕ → ℕ
 shownCams d cams = cond (functionOf d 2) (cams % 256) 0
 
 -- "n<nx: |d| × 60 < datum 25 × T", while its function is on
-abbrev pub belowNx : List ℤ → ℕ → Bool
-belowNx d moved = functionOf d 3 && slower d moved 25
+abbrev pub belowNx : List ℤ → Step → Bool
+belowNx d step = functionOf d 3 && slower d step 25
 
 -- the word of an effective selection, a stop, F, cams and n<nx
 unfoldable pub wordBy : List ℤ → Selection → Stop → Bool → ℕ → Bool → ℕ

@@ -7,6 +7,7 @@ use machine_data::functions;
 use machine_data::numbers;
 use rank::Rank;
 use selection::Selection;
+use speed::Step;
 use stop::Stop;
 
 fn flag(b: bool) -> u8
@@ -58,11 +59,11 @@ fn shown_cams(values: &Values, cams: u32) -> u8
 }
 
 // n<nx, while its function is on; else the speed is not looked at.
-pub fn below_nx(values: &Values, moved: u32) -> bool
-    ensures { λ r. ⌜ r ≡ belowNx (now (values .entry)) moved ⌝ }
+pub fn below_nx(values: &Values, step: Step) -> bool
+    ensures { λ r. ⌜ r ≡ belowNx (now (values .entry)) step ⌝ }
 {
     if machine_data::function(values, functions::NX) {
-        speed::slower(values, moved, numbers::NX)
+        speed::slower(values, step, numbers::NX)
     } else {
         false
     }

@@ -1,5 +1,6 @@
 // How numbers, and yes and no, cross to a program in another language and back: as words of 32 bits.
 ghost use mathlib.Core.Path.{_≡_};
+ghost use Prim.Native.Nat.{_<_};
 ghost use Rattle.crossing.specs.Words.{signedOf, unsignedOf, yesFrom, yesWord};
 
 // The signed number of a word, in two's complement.
@@ -32,4 +33,12 @@ pub fn yes_word(b: bool) -> u32
     ensures { λ r. ⌜ r ≡ yesWord b ⌝ }
 {
     if b { 1 } else { 0 }
+}
+
+// A word as a number of things.
+pub fn wide(word: u32) -> usize
+    ensures { λ r. ⌜ r ≡ word ⌝ }
+    ensures { λ r. ⌜ r < 4294967296 ⌝ }
+{
+    word as usize
 }

@@ -19,7 +19,7 @@ use Rattle.rank.proofs.Laws.{rank-le}
 use Rattle.causes.specs.Causes.{strongestOf, freshOf}
 use Rattle.state.specs.declared.State.{State}
 use Rattle.state.specs.declared.Given.{Given}
-use Rattle.judge.specs.Causes.{movedIn, rowsOf}
+use Rattle.judge.specs.Causes.{stepIn, rowsOf}
 use Rattle.channel.specs.Cycle.{strongestIn, clearsIn, enteredIn, next}
 use Rattle.demand_2.specs.Demand2.{becomesA, rankBefore, rankAfter, entered, settledRank}
 use Rattle.demand_2.proofs.Stops.{counted-level, settled-level}
@@ -32,7 +32,7 @@ module _ (m : MachineData) (s : State) (g : Given) where
   clears = clearsIn m s g
 
   abbrev slow : Bool
-  slow = slower (m .values) (movedIn s g) 33
+  slow = slower (m .values) (stepIn m s g) 33
 
   -- the stop whose count is looked at: the one entered, or the standing one with its count a cycle less
   abbrev taken : Bool → Stop

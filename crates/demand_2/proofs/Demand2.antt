@@ -18,7 +18,7 @@ use Rattle.causes.specs.Causes.{freshOf, Standing}
 use Rattle.causes.proofs.Laws.{strongest-at-least, strongest-stands}
 use Rattle.state.specs.declared.State.{State}
 use Rattle.state.specs.declared.Given.{Given}
-use Rattle.judge.specs.Causes.{movedIn, rowsOf}
+use Rattle.judge.specs.Causes.{stepIn, rowsOf}
 use Rattle.channel.specs.Cycle.{strongestIn, clearsIn}
 use Rattle.demand_2.specs.Demand2.{becomesA, rankBefore, rankAfter, StandingRow, Outranked, Clears, entered, Enters, Strongest, BecomesA, settledRank, Demand2}
 use Rattle.demand_2.proofs.Stops.{counted-level, only-b}
@@ -38,7 +38,7 @@ module _ (m : MachineData) (s : State) (g : Given) where
   strongest = strongestIn m s g
 
   abbrev slow : Bool
-  slow = slower (m .values) (movedIn s g) 33
+  slow = slower (m .values) (stepIn m s g) 33
 
   -- ---- by the rows of the table
 

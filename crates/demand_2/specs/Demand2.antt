@@ -20,7 +20,7 @@ use Rattle.stop.specs.Stop.{levelOf, enteredOf, countedOf, endsOf}
 use Rattle.causes.specs.declared.Cause.{Cause}
 use Rattle.state.specs.declared.State.{State}
 use Rattle.state.specs.declared.Given.{Given}
-use Rattle.judge.specs.Causes.{movedIn, rowsOf}
+use Rattle.judge.specs.Causes.{stepIn, rowsOf}
 use Rattle.channel.specs.Cycle.{enteredIn, next}
 
 -- B with its count at 0, or where the axis is slow
@@ -65,11 +65,11 @@ module _ (m : MachineData) (s : State) (g : Given) where
 
   -- "B becomes A" in this cycle, in which x is the stop that is entered, or the standing one with its count a cycle less
   abbrev pub BecomesA : Stop → Type 0
-  BecomesA x = T (becomesA (slower (m .values) (movedIn s g) 33) x)
+  BecomesA x = T (becomesA (slower (m .values) (stepIn m s g) 33) x)
 
   -- the rank of x, A's where B becomes A
   abbrev pub settledRank : Stop → ℕ
-  settledRank x = cond (becomesA (slower (m .values) (movedIn s g) 33) x) 5 (levelOf x)
+  settledRank x = cond (becomesA (slower (m .values) (stepIn m s g) 33) x) 5 (levelOf x)
 
   pub record Demand2 : Type 0 where
     -- "A stop is entered if and only if a cause outranks the standing stop and no acknowledgement clears it"

@@ -55,7 +55,7 @@ cycleAt gs n =
     (record {
       reading = record { position = pos 0; inputs = 0 };
       acknowledged = false;
-      report = record { position = pos 0; inputs = 0; datum = pos 0 };
+      report = record { position = pos 0; inputs = 0; datum = pos 0; head = 0 };
     })
 
 -- ---- what the steps make of the machine data and the cycles

@@ -15,19 +15,12 @@ pub const WORDS: usize = 17;
 // The words of a channel's state, as they are lent.
 pub type Image = [u32; WORDS];
 
-fn wide(word: u32) -> usize
-    ensures { λ r. ⌜ r ≡ word ⌝ }
-    ensures { λ r. ⌜ r < 4294967296 ⌝ }
-{
-    word as usize
-}
-
 // How many data the list has.
 pub fn count_of(words: &Image) -> usize
     ensures { λ r. ⌜ r ≡ countFrom (now (words .entry)) ⌝ }
     ensures { λ r. ⌜ r < 4294967296 ⌝ }
 {
-    wide(words[0])
+    crossing::wide(words[0])
 }
 
 // The state that the words stand for.

@@ -1,4 +1,4 @@
--- The input word: document 01, "Input word, bytes 22, 23, 32, 33 of DB31, 22 lowest".
+-- The input word: document 01, "Input word, bytes 22, 23, 32, 33 of DB31, 22 lowest", and W1.
 use Prim.Native.Nat.{ℕ, _+_, _/_, _%_, _^_}
 use mathlib.Core.Bool.{Bool}
 use Rattle.bits.specs.Bits.{bitOf, fieldOf}
@@ -17,6 +17,10 @@ sbhOff w = bitOf w 1
 abbrev pub sgNumber : ℕ → ℕ
 sgNumber w = fieldOf w 3 4
 
+-- W1: "Input bits 8 to 10 pick one of eight ratios", bit 8 the lowest
+abbrev pub gearNumber : ℕ → ℕ
+gearNumber w = fieldOf w 8 8
+
 -- "12 SE2 instead of SE1"
 abbrev pub se2Chosen : ℕ → Bool
 se2Chosen w = bitOf w 12
@@ -32,6 +36,6 @@ externalOff w E = bitOf w 21
 abbrev pub overrideNumber : ℕ → ℕ
 overrideNumber w = fieldOf w 28 16
 
--- "Every other bit": 2, 5 to 11, 13 to 17 and 22 to 27; 0 if each of them is
+-- "Every other bit": 2, 5 to 7, 11, 13 to 17 and 22 to 27; 0 if each of them is
 abbrev pub spareOf : ℕ → ℕ
-spareOf w = w / 2 ^ 2 % 2 ^ 1 + w / 2 ^ 5 % 2 ^ 7 + w / 2 ^ 13 % 2 ^ 5 + w / 2 ^ 22 % 2 ^ 6
+spareOf w = w / 2 ^ 2 % 2 ^ 1 + w / 2 ^ 5 % 2 ^ 3 + w / 2 ^ 11 % 2 ^ 1 + w / 2 ^ 13 % 2 ^ 5 + w / 2 ^ 22 % 2 ^ 6

@@ -1,10 +1,12 @@
 // The input word by its fields, and whether what a channel is given in a cycle can be used.
 ghost use mathlib.Core.Path.{_≡_};
 ghost use lib.Dec.{eqb};
-ghost use Rattle.machine_data.specs.Data.{lent};
-ghost use Rattle.inputs.specs.Layout.{sbhSgOff, sbhOff, sgNumber, se2Chosen, externalOff, overrideNumber, spareOf};
-ghost use Rattle.inputs.specs.Usable.{usableOf};
+ghost use Rattle.machine_data.specs.Data.{hasRatios, lent};
+ghost use Rattle.inputs.specs.Layout.{sbhSgOff, sbhOff, sgNumber, gearNumber, se2Chosen, externalOff, overrideNumber, spareOf};
+ghost use Rattle.inputs.specs.Usable.{free, bitsUsable, usableOf, ratioIn};
+use machine_data::Ratio;
 use machine_data::Values;
+use machine_data::heads;
 
 // A channel's own position and input word.
 pub struct Reading {
@@ -39,6 +41,20 @@ pub fn sg_number(w: u32) -> u8
     (w / 8 % 4) as u8
 }
 
+// The gear, from 0.
+fn gear_number(w: u32) -> u8
+    ensures { λ r. ⌜ r ≡ gearNumber w ⌝ }
+{
+    (w / 256 % 8) as u8
+}
+
+// The ratio of the gear that an input word picks.
+pub fn ratio_in(values: &Values, w: u32) -> Ratio
+    ensures { λ r. ⌜ r ≡ ratioIn (now (values .entry)) w ⌝ }
+{
+    machine_data::gear_ratio(values, gear_number(w))
+}
+
 pub fn se2_chosen(w: u32) -> bool
     ensures { λ r. ⌜ r ≡ se2Chosen w ⌝ }
 {
@@ -69,7 +85,10 @@ fn spare_off(w: u32) -> bool
     if w / 4 % 2 != 0 {
         return false;
     }
-    if w / 32 % 128 != 0 {
+    if w / 32 % 8 != 0 {
+        return false;
+    }
+    if w / 2048 % 2 != 0 {
         return false;
     }
     if w / 8192 % 32 != 0 {
@@ -78,13 +97,34 @@ fn spare_off(w: u32) -> bool
     w / 4194304 % 64 == 0
 }
 
-// Whether a channel with a list can use a reading. Which input bits may be set is a matter of the list; so far every list
-// allows the same.
+// Whether the gear's bits may stand as they do in a list of so many data.
+fn gear_usable(count: usize, w: u32) -> bool
+    ensures { λ r. ⌜ r ≡ free (hasRatios count) (gearNumber w) ⌝ }
+{
+    if heads::GEARS <= count {
+        true
+    } else {
+        gear_number(w) == 0
+    }
+}
+
+// Whether all bits of an input word that a list of so many data gives no meaning are 0.
+fn bits_usable(count: usize, w: u32) -> bool
+    ensures { λ r. ⌜ r ≡ bitsUsable count w ⌝ }
+{
+    if spare_off(w) {
+        gear_usable(count, w)
+    } else {
+        false
+    }
+}
+
+// Whether a channel with a list can use a reading.
 pub fn usable(values: &Values, count: usize, reading: Reading) -> bool
     ensures { λ r. ⌜ r ≡ usableOf (lent (now (values .entry)) count) reading ⌝ }
 {
     if 100000000 < distance::magnitude(reading.position as i64) {
         return false;
     }
-    spare_off(reading.inputs)
+    bits_usable(count, reading.inputs)
 }

@@ -3,12 +3,14 @@ use Prim.Native.Nat.{ℕ}
 use mathlib.Core.Bool.{Bool, true, cond, _||_}
 use mathlib.Core.List.{List, [], _∷_}
 use Rattle.machine_data.specs.declared.MachineData.{MachineData}
+use Rattle.distance.specs.declared.Previous.{Previous}
 use Rattle.distance.specs.Step.{movedFrom}
 use lib.IntN.{ℤ}
 use Rattle.inputs.specs.declared.Reading.{Reading}
 use Rattle.inputs.specs.declared.External as X
-use Rattle.inputs.specs.Usable.{usableOf}
+use Rattle.inputs.specs.Usable.{usableOf, ratioIn}
 use Rattle.report.specs.Report.{datumDiffers}
+use Rattle.speed.specs.declared.Step.{Step}
 use Rattle.limits.specs.Limits.{standstillLeft, overSpeed, sgRank, outside, seRank, external, holdLeft}
 use Rattle.selection.specs.declared.Choice.{Choice}
 use Rattle.selection.specs.Selection.{selectedOf, choiceNext}
@@ -23,9 +25,12 @@ use Rattle.state.specs.declared.Given.{Given}
 use Rattle.judge.specs.declared.Differences.{Differences}
 use Rattle.judge.specs.declared.Findings.{Findings}
 
--- step 2: |d|
-abbrev pub movedIn : State → Given → ℕ
-movedIn s g = movedFrom (s .previous) (g .reading .position)
+-- step 2: |d|; W1: and the ratio that this cycle's input bits pick
+abbrev pub stepOf : List ℤ → Previous → Reading → Step
+stepOf d previous r = record { moved = movedFrom previous (r .position); ratio = ratioIn d (r .inputs) }
+
+abbrev pub stepIn : MachineData → State → Given → Step
+stepIn m s g = stepOf (m .values) (s .previous) (g .reading)
 
 -- step 3: the choice that this cycle's selection makes
 unfoldable pub choiceIn : MachineData → State → Given → Choice
@@ -52,14 +57,14 @@ anyDiffers o = o .position || o .inputs || o .datum
 unfoldable pub faultIn : MachineData → State → Given → Fault
 faultIn m s g = faultNext (m .values) (anyDiffers (differencesIn m s g)) (s .kept .fault)
 
--- step 4, "Causes (2 and 3 by the effective selection)", each with its rank: of the data d, the standing stop, a reading, the choice x, |d|, what
+-- step 4, "Causes (2 and 3 by the effective selection)", each with its rank: of the data d, the standing stop, a reading, the choice x, the step, what
 -- differs, and whether F's count has run out. 10, 11 and 12 have no rank of their own
-abbrev pub table : List ℤ → Stop → Reading → Choice → ℕ → Differences → Bool → List Cause
-table d stop r x moved differs expiry =
+abbrev pub table : List ℤ → Stop → Reading → Choice → Step → Differences → Bool → List Cause
+table d stop r x step differs expiry =
     -- "2 SBH, distance from reference over datum 2, rank 4"
     cause 2 (standstillLeft d x (r .position)) R.B
     -- "3 SG, |d| × 6000 > limit × percent × T, rank by datum"
-    ∷ cause 3 (overSpeed d (x .effective) moved) (sgRank d (x .effective))
+    ∷ cause 3 (overSpeed d (x .effective) step) (sgRank d (x .effective))
     -- "4 SE as chosen by bit 12, .., rank by datum 15"
     ∷ cause 4 (outside d r) (seRank d)
     -- "5, 6, 7, 8 external A, C, D, E, its input bit 0, rank its own"
@@ -80,7 +85,7 @@ table d stop r x moved differs expiry =
 -- the table of a usable cycle
 unfoldable pub usableRows : MachineData → State → Given → List Cause
 usableRows m s g =
-    table (m .values) (s .stop) (g .reading) (choiceIn m s g) (movedIn s g) (differencesIn m s g) (expired (faultIn m s g))
+    table (m .values) (s .stop) (g .reading) (choiceIn m s g) (stepIn m s g) (differencesIn m s g) (expired (faultIn m s g))
 
 -- "Unusable: cause 1, rank 5"; else the table of step 4
 unfoldable pub rowsOf : MachineData → State → Given → List Cause
@@ -90,7 +95,7 @@ rowsOf m s g = cond (usableOf m (g .reading)) (usableRows m s g) (cause 1 true R
 abbrev pub findingsOf : MachineData → State → Given → Findings
 findingsOf m s g =
     record {
-      moved = movedIn s g;
+      step = stepIn m s g;
       choice = choiceIn m s g;
       differing = differingIn s g;
       fault = faultIn m s g;

@@ -1,23 +1,25 @@
 // Steps 2 to 4 of a usable cycle: what moved, what is effective, and the table of causes.
 ghost use mathlib.Core.Path.{_≡_};
 ghost use Rattle.machine_data.specs.Data.{lent};
-ghost use Rattle.judge.specs.Causes.{anyDiffers, table, findingsOf};
+ghost use Rattle.judge.specs.Causes.{stepOf, anyDiffers, table, findingsOf};
 use causes::Cause;
 use causes::Rows;
 use causes::Summary;
 use comparison::Fault;
+use distance::Previous;
 use inputs::External;
 use inputs::Reading;
 use machine_data::Values;
 use rank::Rank;
 use selection::Choice;
+use speed::Step;
 use state::Given;
 use state::State;
 use stop::Stop;
 
-// What steps 2 to 4 come to: |d|, what this cycle leaves of the choice, the run and F, the causes, and what step 5 asks of them.
+// What steps 2 to 4 come to: the step, what this cycle leaves of the choice, the run and F, the causes, and what step 5 asks of them.
 pub struct Findings {
-    pub moved: u32,
+    pub step: Step,
     pub choice: Choice,
     pub differing: u32,
     pub fault: Fault,
@@ -46,17 +48,27 @@ impl Differences {
     }
 }
 
+// Step 2: |d|, with the ratio that this cycle's inputs pick.
+fn step_of(values: &Values, previous: Previous, reading: Reading) -> Step
+    ensures { λ r. ⌜ r ≡ stepOf (now (values .entry)) previous reading ⌝ }
+{
+    Step {
+        moved: previous.moved_to(reading.position),
+        ratio: inputs::ratio_in(values, reading.inputs),
+    }
+}
+
 // The table of causes. A new cause is a row here and in the definition.
 fn rows(
     values: &Values,
     stop: Stop,
     reading: Reading,
     choice: Choice,
-    moved: u32,
+    step: Step,
     differs: Differences,
     expired: bool,
 ) -> Rows
-    ensures { λ r. ⌜ r ≡ table (now (values .entry)) stop reading choice moved differs expired ⌝ }
+    ensures { λ r. ⌜ r ≡ table (now (values .entry)) stop reading choice step differs expired ⌝ }
 {
     let effective = choice.effective;
     [
@@ -67,7 +79,7 @@ fn rows(
         },
         Cause {
             code: 3,
-            stands: limits::over_speed(values, effective, moved),
+            stands: limits::over_speed(values, effective, step),
             rank: limits::sg_rank(values, effective),
         },
         Cause {
@@ -133,7 +145,7 @@ pub fn judge(values: &Values, count: usize, state: State, given: Given) -> Findi
     let before = kept.choice;
     let fault = kept.fault;
     let stop = state.stop;
-    let moved = previous.moved_to(reading.position);
+    let step = step_of(values, previous, reading);
     let choice = before.next(values, selection::selected(values, reading.inputs), reading);
     let differing = comparison::run(kept.differing, reading, report);
     let differs = Differences {
@@ -147,12 +159,12 @@ pub fn judge(values: &Values, count: usize, state: State, given: Given) -> Findi
         stop,
         reading,
         choice,
-        moved,
+        step,
         differs,
         after.expired(),
     );
     Findings {
-        moved,
+        step,
         choice,
         differing,
         fault: after,

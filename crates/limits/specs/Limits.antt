@@ -9,6 +9,7 @@ use Rattle.machine_data.specs.Data.{datumOf, numberOf, functionOf}
 use Rattle.inputs.specs.declared.Reading.{Reading}
 use Rattle.inputs.specs.declared.External.{External}
 use Rattle.inputs.specs.Layout.{se2Chosen, externalOff}
+use Rattle.speed.specs.declared.Step.{Step}
 use Rattle.speed.specs.Speed.{tooFast}
 use Rattle.selection.specs.declared.Selection.{Selection}
 use Rattle.selection.specs.declared.Selection.the-variants.{Nothing, Sg, Sbh}
@@ -25,10 +26,10 @@ unfoldable pub standstillLeft : List ℤ → Choice → ℤ → Bool
 standstillLeft d x position = isSbh (x .effective) && ltb (numberOf d 2) (natAbs (position -ℤ x .reference))
 
 -- "3 SG, |d| × 6000 > limit × percent × T, rank by datum"
-abbrev pub overSpeed : List ℤ → Selection → ℕ → Bool
-overSpeed d Nothing moved = false
-overSpeed d (Sg n o) moved = tooFast d moved n o
-overSpeed d Sbh moved = false
+abbrev pub overSpeed : List ℤ → Selection → Step → Bool
+overSpeed d Nothing step = false
+overSpeed d (Sg n o) step = tooFast d step n o
+overSpeed d Sbh step = false
 
 -- "rank by datum"
 abbrev pub sgRank : List ℤ → Selection → Rank

@@ -12,6 +12,7 @@ use rank::Rank;
 use selection::Choice;
 use selection::Selection;
 use speed::Sg;
+use speed::Step;
 use stop::Stop;
 
 // Cause 2.
@@ -30,12 +31,12 @@ pub fn standstill_left(values: &Values, choice: Choice, reading: Reading) -> boo
 }
 
 // Cause 3.
-pub fn over_speed(values: &Values, effective: Selection, moved: u32) -> bool
-    ensures { λ r. ⌜ r ≡ overSpeed (now (values .entry)) effective moved ⌝ }
+pub fn over_speed(values: &Values, effective: Selection, step: Step) -> bool
+    ensures { λ r. ⌜ r ≡ overSpeed (now (values .entry)) effective step ⌝ }
 {
     match effective {
         Selection::Nothing => false,
-        Selection::Sg(number, over) => speed::too_fast(values, moved, Sg { number, over }),
+        Selection::Sg(number, over) => speed::too_fast(values, step, Sg { number, over }),
         Selection::Sbh => false,
     }
 }

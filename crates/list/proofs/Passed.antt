@@ -2,11 +2,11 @@
 use mathlib.Core.Path.{_≡_, refl, sym, ap, _∙_}
 use mathlib.Core.List.{List, [], _∷_, _++_, append-assoc, append-nil}
 use mathlib.Core.Bool.{_&&_}
-use Prim.Native.Nat.{ℕ, suc, _+_, _<_}
+use Prim.Native.Nat.{ℕ, zero, suc, _+_, _-_, _<_}
 use native.Mathlib.Numerals.{add-one}
 use native.Mathlib.Omega.{arith}
-use lib.ListN.{length, take, drop, set, length-set, length-append, length-replicate}
-use lib.Seq.{drop-drop, drop-append-seam, take-all, take-suc-set}
+use lib.ListN.{length, take, drop, set, replicate, length-set, length-append, length-replicate, take-append-drop}
+use lib.Seq.{drop-drop, drop-append-seam, drop-set-lt, take-suc-set}
 use lib.IntN.{ℤ, pos}
 use lib.Signed.{leZ}
 use lib.Dec.{T, ltb, ltb→lt}
@@ -16,7 +16,7 @@ use Rattle.datum.specs.declared.DatumAnswer as D
 use Rattle.datum.proofs.Written.{written-reads}
 use Rattle.datum.proofs.Forms.{value-behind}
 use Rattle.list.specs.Reading.{placeOf, ends, onValue, gather, zeros}
-use Rattle.list.specs.IsList.{DataTo, end, datum}
+use Rattle.list.specs.IsList.{DataTo, end, datum, filled}
 use Rattle.list.proofs.Steps.{next-place}
 
 pub below-count : (k : ℕ) (z : ℤ) → T (inRange k z) → k < dataCount
@@ -37,15 +37,24 @@ pub how-many : {j k : ℕ} {vs : List ℤ} {ws : List ℕ} → DataTo j k vs ws 
 how-many end = omega arith
 how-many (datum h r rest) = let n = how-many rest in omega (arith, n)
 
+-- what stands behind n places of zeros
+drop-replicate : (n m : ℕ) → drop n (replicate m (pos 0)) ≡ replicate (m - n) (pos 0)
+drop-replicate zero m = let all : m - 0 ≡ m = omega arith in ap (λ (i : ℕ). replicate i (pos 0)) (sym all)
+drop-replicate (suc n) zero = let none : 0 - suc n ≡ 0 = omega arith in ap (λ (i : ℕ). replicate i (pos 0)) (sym none)
+drop-replicate (suc n) (suc m) = let less : m - n ≡ suc m - suc n = omega arith in drop-replicate n m ∙ ap (λ (i : ℕ). replicate i (pos 0)) less
+
+pub behind-zeros : (n : ℕ) → drop n zeros ≡ replicate (dataCount - n) (pos 0)
+behind-zeros n = drop-replicate n dataCount
+
 -- ---- the data passed
 
 pub passed : (i : ℕ) {j k : ℕ} {vs : List ℤ} {ws : List ℕ} (x : DataTo j k vs ws) (s : List ℕ) (at : ℕ) (rest : List ℕ) → drop at s ≡ ws ++ rest → (acc : List ℤ) → length acc ≡ dataCount →
-    (acc′ : List ℤ) × (length acc′ ≡ dataCount) × (take j acc′ ≡ take k acc ++ vs) × (gather (length vs + i) s k at acc ≡ gather i s j (at + length ws) acc′)
+    (acc′ : List ℤ) × (drop j acc′ ≡ drop j acc) × (take j acc′ ≡ take k acc ++ vs) × (gather (length vs + i) s k at acc ≡ gather i s j (at + length ws) acc′)
 unfolding gather
 passed i {j} end s at rest e acc l =
     let many : 0 + i ≡ i = omega arith in
     let here : at ≡ at + 0 = omega arith in
-    (acc, l, sym (append-nil (take j acc)), λ t. gather (many t) s j (here t) acc)
+    (acc, refl, sym (append-nil (take j acc)), λ t. gather (many t) s j (here t) acc)
 passed i {j} (datum {k} {z} {vs} {w} {ws} h r x) s at rest e acc l =
     let room : k < length acc = omega (arith, l, below-count k z r) in
     let many : suc (length vs) + i ≡ suc (length vs + i) = omega arith in
@@ -54,7 +63,7 @@ passed i {j} (datum {k} {z} {vs} {w} {ws} h r x) s at rest e acc l =
     let read = written-reads h r s at (ws ++ rest) e′ in
     let y = passed i x s (at + length w) rest (behind s at w (ws ++ rest) e′) (set acc k z) (length-set acc k z ∙ l) in (
       y .0,
-      y .1,
+      y .1 ∙ drop-set-lt j acc k z (omega (arith, how-many x)),
       y .2 ∙ ap (λ (n : ℕ). take n (set acc k z) ++ vs) (sym (add-one k)) ∙ one-more acc k z vs room,
       ap (λ (n : ℕ). gather n s k at acc) many
           ∙ ap (λ (t : D.DatumAnswer). onValue t (λ v next. gather (length vs + i) s (k + 1) next (set acc k v))) read
@@ -64,13 +73,13 @@ passed i {j} (datum {k} {z} {vs} {w} {ws} h r x) s at rest e acc l =
     )
 
 -- all of them
-pub all-passed : {n : ℕ} {vs : List ℤ} {ws : List ℕ} → n ≡ dataCount → DataTo n 0 vs ws → (s : List ℕ) (rest : List ℕ) → drop 1 s ≡ ws ++ rest →
-    gather n s 0 1 zeros ≡ ends s (record { values = vs; count = n }) (1 + length ws)
+pub all-passed : {n : ℕ} {vs : List ℤ} {ws : List ℕ} → DataTo n 0 vs ws → (s : List ℕ) (rest : List ℕ) → drop 1 s ≡ ws ++ rest →
+    gather n s 0 1 zeros ≡ ends s (record { values = filled n vs; count = n }) (1 + length ws)
 unfolding gather
-all-passed {n} {vs} {ws} size x s rest e =
+all-passed {n} {vs} {ws} x s rest e =
     let y = passed 0 x s 1 rest e zeros (length-replicate dataCount (pos 0)) in
     let many : n ≡ length vs + 0 = omega (arith, how-many x) in
-    let values : y .0 ≡ vs = sym (take-all n (y .0) (omega (arith, y .1, size))) ∙ y .2 in
+    let values : y .0 ≡ filled n vs = sym (take-append-drop n (y .0)) ∙ (λ i. y .2 i ++ (y .1 ∙ behind-zeros n) i) in
     ap (λ (i : ℕ). gather i s 0 1 zeros) many ∙ y .3 ∙ ap (λ (l : List ℤ). ends s (record { values = l; count = n }) (1 + length ws)) values
 
 -- ---- the place of the datum behind them

@@ -1,14 +1,15 @@
 -- The head, the data one by one, and the end of a list, by what was read. Assumes nothing.
 use mathlib.Core.Path.{_≡_, refl, sym, ap, _∙_, subst}
 use mathlib.Core.List.{List, [], _∷_}
-use mathlib.Core.Bool.{Bool, true, false, not, cond}
+use mathlib.Core.Bool.{Bool, true, false, not, cond, _&&_, _||_}
 use Prim.Native.Nat.{ℕ, suc, _+_, _-_, _≤_, _<_}
 use native.Mathlib.Numerals.{add-one}
 use native.Mathlib.Omega.{arith}
 use lib.ListN.{set, getD}
 use lib.IntN.{ℤ, pos}
 use lib.Signed.{ltZ, leZ, ltZ-yes, leZ-yes, ltZ-no, clashℤ, mag}
-use lib.Dec.{T}
+use lib.Dec.{T, eqb, leb, leb→le}
+use lib.Ieee.Fits.{and-l, and-r}
 use lib.Ieee.Bits.{is-true}
 use mir.Syntax.{w32}
 use mir.Val.{toZ, ofZ}
@@ -29,7 +30,7 @@ use Rattle.ranges.specs.Table.{dataCount}
 use Rattle.machine_data.specs.declared.MachineData.{MachineData}
 use Rattle.datum.specs.declared.DatumAnswer as D
 use Rattle.datum.specs.Datum.{valueAt, behindOf}
-use Rattle.list.specs.Rules.{isHead, seBelow}
+use Rattle.list.specs.Rules.{among, heads, isHead, seBelow}
 use Rattle.list.specs.Reading.{acceptedList, refusedList, placeOf, ends, onValue, gather, zeros, readList}
 use Rattle.list.specs.declared.ListRead.{ListRead}
 
@@ -46,8 +47,31 @@ pub by-head : (s : List ℕ) {n : ℕ} → wordAt s 0 ≡ Head n → {t : Bool} 
 unfolding readList behind-head
 by-head s {n} e h = sym (ap (λ (y : Word). ifHead y (behind-head s) (refusedList (WrongWord 0))) e ∙ ap (λ (t : Bool). cond t (gather n s 0 1 zeros) (refusedList (WrongWord 0))) h)
 
-pub head-count : (n : ℕ) {t : Bool} → t ≡ isHead n → t ≡ true → n ≡ dataCount
-head-count n e t = eqb-true n dataCount (sym e ∙ t)
+-- each head is at least that of document 01, and no more than there is room for
+abbrev fitting : List ℕ → Bool
+fitting [] = true
+fitting (m ∷ ms) = leb 51 m && leb m dataCount && fitting ms
+
+among-fitting : (ms : List ℕ) (n : ℕ) → T (fitting ms) → T (among n ms) → (51 ≤ n) × (n ≤ dataCount)
+among-fitting [] n f = λ t. absurd t
+among-fitting (m ∷ ms) n f = go (eqb n m) refl (among-fitting ms n (and-r (leb 51 m && leb m dataCount) (fitting ms) f))
+  where
+    ends : T (leb 51 m && leb m dataCount)
+    ends = and-l (leb 51 m && leb m dataCount) (fitting ms) f
+
+    go : (t : Bool) → eqb n m ≡ t → (T (among n ms) → (51 ≤ n) × (n ≤ dataCount)) → T (t || among n ms) → (51 ≤ n) × (n ≤ dataCount)
+    go true q rest t =
+        let same : n ≡ m = eqb-true n m q in
+        let low : 51 ≤ m = leb→le 51 m (and-l (leb 51 m) (leb m dataCount) ends) in
+        let high : m ≤ dataCount = leb→le m dataCount (and-r (leb 51 m) (leb m dataCount) ends) in
+        (omega (arith, same, low), omega (arith, same, high))
+    go false q rest t = rest t
+
+pub head-bounds : (n : ℕ) → T (isHead n) → (51 ≤ n) × (n ≤ dataCount)
+head-bounds n t = among-fitting heads n tt t
+
+pub head-count : (n : ℕ) {t : Bool} → t ≡ isHead n → t ≡ true → n ≤ dataCount
+head-count n e t = head-bounds n (subst T (sym (sym e ∙ t)) tt) .1
 
 -- ---- the data one by one
 

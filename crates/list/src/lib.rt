@@ -6,6 +6,7 @@ ghost use Rattle.list.specs.Rules.{isHead};
 ghost use Rattle.list.specs.Reading.{placeOf, refusedList, ends, gather, zeros, readList};
 use datum::DatumAnswer;
 use machine_data::MachineData;
+use machine_data::heads;
 use machine_data::numbers::SE1_MINUS;
 use machine_data::numbers::SE1_PLUS;
 use machine_data::numbers::SE2_MINUS;
@@ -30,7 +31,8 @@ pub struct ListRead {
 fn is_head(n: u32) -> bool
     ensures { λ r. ⌜ r ≡ isHead n ⌝ }
 {
-    n as usize == DATA
+    let count = n as usize;
+    count == heads::BASE || count == heads::GEARS
 }
 
 fn refused(why: Refusal) -> ListRead

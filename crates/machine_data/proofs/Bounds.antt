@@ -19,7 +19,7 @@ abbrev pub each : (ℕ → Bool) → ℕ → Bool
 each p zero = true
 each p (suc n) = p 0 && each (λ i. p (suc i)) n
 
-each-at : (p : ℕ → Bool) (n i : ℕ) → T (each p n) → i < n → T (p i)
+pub each-at : (p : ℕ → Bool) (n i : ℕ) → T (each p n) → i < n → T (p i)
 each-at p zero i t h = absurd (not-suc-le-zero h)
 each-at p (suc n) zero t h = and-l (p 0) (each (λ i. p (suc i)) n) t
 each-at p (suc n) (suc i) t h = each-at (λ i. p (suc i)) n i (and-r (p 0) (each (λ i. p (suc i)) n) t) (le-of-suc-le-suc h)

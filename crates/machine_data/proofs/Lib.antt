@@ -1,3 +1,4 @@
 pub mod Tests
 pub mod Stands
 pub mod Bounds
+pub mod Lacks

@@ -1,15 +1,17 @@
 -- How a datum is read from the values of a list. In every list that is accepted a datum is read as it stands
--- (proofs/Stands.antt); what no list can bring is read as the nearer end of its range, so that each channel has a next cycle.
-use Prim.Native.Nat.{ℕ, _<_}
+-- (proofs/Stands.antt). What no list can bring is read as the nearer end of its range, so that each channel has a next cycle, and so is the 0 that
+-- stands for a datum which a shorter list lacks (`lacks` in proofs/Lacks.antt).
+use Prim.Native.Nat.{ℕ, _+_, _%_, _<_}
 use mathlib.Core.List.{List}
-use mathlib.Core.Bool.{Bool, cond}
+use mathlib.Core.Bool.{Bool, cond, _&&_}
 use lib.ListN.{getD}
 use lib.IntN.{ℤ, pos, negsuc}
 use lib.Signed.{ltZ}
-use lib.Dec.{T, ltb}
+use lib.Dec.{T, ltb, leb}
 use Rattle.bits.specs.Bits.{bitOf}
 use Rattle.ranges.specs.Table.{dataCount, lowOf, highOf, inRange}
 use Rattle.machine_data.specs.declared.MachineData.{MachineData}
+use Rattle.machine_data.specs.declared.Ratio.{Ratio}
 
 -- a list whose values and count are lent apart
 abbrev pub lent : List ℤ → ℕ → MachineData
@@ -31,13 +33,25 @@ size (negsuc n) = 0
 unfoldable pub numberOf : List ℤ → ℕ → ℕ
 numberOf d k = size (datumOf d k)
 
+-- W1: "A list headed 51 is read with every ratio 1 to 1"; "in a shorter list they count as 0": as what number a datum is read that a list lacks
+abbrev pub lackedOf : ℕ → ℕ
+lackedOf k = cond (leb 51 k && leb k 66) 1 0
+
+-- W1: "one of eight ratios": "Data 51 to 58 are the numerators and 59 to 66 the denominators"
+unfoldable pub ratioOf : List ℤ → ℕ → Ratio
+ratioOf d g = record { numerator = numberOf d (51 + g % 8); denominator = numberOf d (59 + g % 8) }
+
+-- W1: "the list head then says 67": a list of so many data, or more, has ratios
+abbrev pub hasRatios : ℕ → Bool
+hasRatios count = leb 67 count
+
 -- datum k as it stands; 0 where there is none
 abbrev pub entryOf : List ℤ → ℕ → ℤ
 entryOf d k = cond (ltb k dataCount) (getD d k (pos 0)) (pos 0)
 
--- each datum lies within its range, as in every accepted list
-abbrev pub InRanges : List ℤ → Type 0
-InRanges d = (k : ℕ) → k < dataCount → T (inRange k (getD d k (pos 0)))
+-- each datum that the list has lies within its range, as in every accepted list
+abbrev pub InRanges : MachineData → Type 0
+InRanges m = (k : ℕ) → k < m .count → T (inRange k (getD (m .values) k (pos 0)))
 
 -- "functions; bit 0 SBH/SG, 1 SE, 2 cams, 3 n<nx, 4 external stops": function n is on
 unfoldable pub functionOf : List ℤ → ℕ → Bool

@@ -1,23 +1,31 @@
 // The machine data of a channel: the data of a list by number and name, and a datum read within its range.
 pub mod functions;
+pub mod heads;
 pub mod numbers;
 
 ghost use mathlib.Core.Path.{_≡_};
 ghost use Prim.Native.Nat.{_<_, _+_, _%_};
 ghost use Rattle.ranges.specs.Table.{dataCount, lowOf, highOf};
-ghost use Rattle.machine_data.specs.Data.{datumOf, size, numberOf, entryOf, functionOf};
+ghost use Rattle.machine_data.specs.Data.{datumOf, size, numberOf, ratioOf, entryOf, functionOf};
 use ranges::DATA;
 
 // The data by their numbers, as they are lent.
 pub type Values = [i32; DATA];
 
-// The data of an accepted list, and how many it has; a count of 0 where there is no list.
+// The data of an accepted list, and how many it has; the places behind them are 0. A count of 0 where there is no list.
 pub struct MachineData {
     pub values: Values,
     pub count: usize,
 }
 
-// Datum k between the ends of its range: what lies outside, as in no accepted list, reads as the nearer end.
+// A gear stage's ratio of load to step.
+pub struct Ratio {
+    pub numerator: u16,
+    pub denominator: u16,
+}
+
+// Datum k between the ends of its range: what lies outside, as in no accepted list, reads as the nearer end. So does the 0 that
+// stands for a datum that the list lacks.
 fn read(values: &Values, k: usize, least: i32, most: i32) -> i32
     requires { ⌜ k < dataCount ⌝ }
     requires { ⌜ least ≡ lowOf k ⌝ }
@@ -85,6 +93,17 @@ pub fn percent(values: &Values, n: u8) -> u64
     ensures { λ r. ⌜ r ≡ numberOf (now (values .entry)) (35 + n % 16) ⌝ }
 {
     size(read(values, numbers::OVERRIDE + ((n % 16) as usize), 1, 100))
+}
+
+// The ratio of gear g.
+pub fn gear_ratio(values: &Values, g: u8) -> Ratio
+    ensures { λ r. ⌜ r ≡ ratioOf (now (values .entry)) g ⌝ }
+{
+    let stage = (g % 8) as usize;
+    Ratio {
+        numerator: size(read(values, numbers::NUMERATOR + stage, 1, 1000)) as u16,
+        denominator: size(read(values, numbers::DENOMINATOR + stage, 1, 1000)) as u16,
+    }
 }
 
 // Datum k as it stands, for a report and its comparison.

@@ -1,4 +1,4 @@
-// The numbers of the data, as document 01's table has them. Where a row has several, the first.
+// The numbers of the data, as document 01's table and W1 have them. Where a row has several, the first.
 pub const CYCLE_TIME: usize = 0;
 
 pub const FUNCTIONS: usize = 1;
@@ -44,3 +44,7 @@ pub const SHUTDOWN_SPEED: usize = 33;
 pub const TIME_F: usize = 34;
 
 pub const OVERRIDE: usize = 35;
+
+pub const NUMERATOR: usize = 51;
+
+pub const DENOMINATOR: usize = 59;

@@ -1,4 +1,4 @@
--- The ranges of the machine data: document 01, "Machine data".
+-- The ranges of the machine data: document 01, "Machine data", and W1.
 use Prim.Native.Nat.{ℕ}
 use mathlib.Core.List.{List, [], _∷_}
 use mathlib.Core.Bool.{Bool, cond, _&&_}
@@ -7,9 +7,9 @@ use lib.Signed.{leZ}
 use lib.Dec.{leb, ltb}
 use Rattle.ranges.specs.declared.Range.{Range}
 
--- "numbers 0 to 50": how many data a list has
+-- "51 data, numbers 0 to 50"; W1: "the list head then says 67". How many data the longest list has
 abbrev pub dataCount : ℕ
-dataCount = 51
+dataCount = 67
 
 -- a row of the table: the data up to number `last`, from the row before on
 pub record Row : Type 0 where
@@ -59,6 +59,10 @@ rows =
     ∷ to 34 (pos 0) 1_000
     -- override percent 0 to 15
     ∷ to 50 (pos 1) 100
+    -- W1: "Data 51 to 58 are the numerators .., each 1 to 1000"
+    ∷ to 58 (pos 1) 1_000
+    -- W1: "and 59 to 66 the denominators"
+    ∷ to 66 (pos 1) 1_000
     ∷ []
 
 -- the row of datum k: the first that goes as far
@@ -76,6 +80,6 @@ highOf k = rowOf rows k .high
 abbrev pub rangeOf : ℕ → Range
 rangeOf k = record { low = lowOf k; high = highOf k }
 
--- z may be datum k; "numbers 0 to 50"
+-- z may be datum k; there is none past the last
 unfoldable pub inRange : ℕ → ℤ → Bool
 inRange k z = ltb k dataCount && leZ (lowOf k) z && leZ z (highOf k)

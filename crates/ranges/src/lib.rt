@@ -3,8 +3,8 @@ ghost use mathlib.Core.Path.{_≡_};
 ghost use Prim.Native.Nat.{_<_, _≤_};
 ghost use Rattle.ranges.specs.Table.{dataCount, rangeOf, inRange};
 
-// How many data a list has.
-pub const DATA: usize = 51;
+// How many data the longest list has.
+pub const DATA: usize = 67;
 
 // The range of a datum, by its ends.
 pub struct Range {
@@ -54,6 +54,8 @@ fn range_from_16(k: usize) -> Range
             low: -100000000,
             high: 100000000,
         }
+    } else if 51 <= k {
+        Range { low: 1, high: 1000 }
     } else if 35 <= k {
         Range { low: 1, high: 100 }
     } else if k < 25 {

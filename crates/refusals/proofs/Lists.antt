@@ -10,7 +10,7 @@ use lib.ListN.{length, getD, drop, set, length-append, length-replicate, List·g
 use lib.Seq.{getD-append-add}
 use lib.IntN.{ℤ, pos}
 use lib.Signed.{ltZ}
-use lib.Dec.{T, eqb, eqb→eq}
+use lib.Dec.{T, eqb}
 use lib.Ieee.Bits.{is-true}
 use borrow.Author.Tests.{eqb-true, eqb-false}
 use Rattle.laws.proofs.Never.{never}
@@ -33,8 +33,8 @@ use Rattle.list.specs.declared.ListRead.{ListRead}
 use Rattle.list.specs.declared.ListAnswer as A
 use Rattle.list.specs.Rules.{isHead, seBelow}
 use Rattle.list.specs.Reading.{acceptedList, refusedList, placeOf, ends, onValue, gather, zeros, readList}
-use Rattle.list.specs.IsList.{DataTo, end, datum}
-use Rattle.list.proofs.Steps.{ended-by, by-head}
+use Rattle.list.specs.IsList.{DataTo, end, datum, filled}
+use Rattle.list.proofs.Steps.{ended-by, by-head, head-bounds}
 use Rattle.list.proofs.Passed.{behind, how-many, passed, all-passed, place-behind}
 use Rattle.refusals.specs.IsFault.{IsFault, no-head, se1, se2}
 use Rattle.refusals.specs.IsFault as F
@@ -91,6 +91,12 @@ module _ (vs : List ℤ) (minus plus : ℤ) (later : List ℤ) (p : ℕ) (many :
 below-before-seam : (vs more : List ℤ) (k : ℕ) → suc k < length vs → seBelow (vs ++ more) k ≡ seBelow vs k
 below-before-seam vs more k low = λ i. ltZ (List·getD-append vs more (pos 0) k (omega (arith, low)) i) (List·getD-append vs more (pos 0) (suc k) low i)
 
+-- and both at once, with the places of what the list lacks behind them
+below-filled : (n : ℕ) (vs : List ℤ) (minus plus : ℤ) (later : List ℤ) (p : ℕ) → length vs ≡ p → seBelow (filled n (vs ++ (minus ∷ plus ∷ later))) p ≡ ltZ minus plus
+below-filled n vs minus plus later p many =
+    let all = vs ++ (minus ∷ plus ∷ later) in
+    below-before-seam all _ p (omega (arith, many, length-append vs (minus ∷ plus ∷ later))) ∙ below-at-seam vs minus plus later p many
+
 -- ---- what is faulty is refused
 
 -- the data behind a head
@@ -102,11 +108,11 @@ module _ {w n p : ℕ} {vs late : List ℤ} {before from : List ℕ} (rest : Lis
   abbrev all-words : List ℕ
   all-words = w ∷ (before ++ (from ++ rest))
 
-  to-ends : (m : ℕ) × (readList all-words ≡ ends all-words (record { values = vs ++ late; count = n }) m)
+  to-ends : (m : ℕ) × (readList all-words ≡ ends all-words (record { values = filled n (vs ++ late); count = n }) m)
   to-ends =
       let t = joined x y in
       let e : before ++ (from ++ rest) ≡ t .0 ++ rest = sym (append-assoc before from rest) ∙ ap (λ (l : List ℕ). l ++ rest) (sym (t .1)) in
-      (1 + length (t .0), by-data (before ++ (from ++ rest)) h size ∙ all-passed (eqb→eq n dataCount size) (t .2) all-words rest e)
+      (1 + length (t .0), by-data (before ++ (from ++ rest)) h size ∙ all-passed (t .2) all-words rest e)
 
   at-minus : refusedList (SeEnds (placeOf all-words p)) ≡ refusedList (SeEnds (suc (length before)))
   at-minus = let place : placeOf all-words p ≡ suc (length before) = omega (arith, place-behind x all-words (from ++ rest) refl) in ap (λ (i : ℕ). refusedList (SeEnds i)) place
@@ -126,18 +132,21 @@ refuses (F.datum {w} {n} {k} {m} {cause} {vs} {before} {ws} h size low x f) =
     ∙ ap (λ (i : ℕ). refusedList (cause i)) place
 refuses (se1 {w} {n} {minus} {plus} {vs} {later} {before} {behind = from} rest h size x y wrong) =
     let t = to-ends rest h size x y in
-    let d : MachineData = record { values = vs ++ (minus ∷ plus ∷ later); count = n } in
+    let d : MachineData = record { values = filled n (vs ++ (minus ∷ plus ∷ later)); count = n } in
     let many : length vs ≡ 11 = omega (arith, how-many x) in
     t .1
-    ∙ sym (ended-by (w ∷ (before ++ (from ++ rest))) d (t .0) (below-at-seam vs minus plus later 11 many ∙ is-false (ltZ minus plus) wrong) refl)
+    ∙ sym (ended-by (w ∷ (before ++ (from ++ rest))) d (t .0) (below-filled n vs minus plus later 11 many ∙ is-false (ltZ minus plus) wrong) refl)
     ∙ at-minus rest h size x y
 refuses (se2 {w} {n} {minus} {plus} {vs} {later} {before} {behind = from} rest h size x y right wrong) =
     let t = to-ends rest h size x y in
-    let d : MachineData = record { values = vs ++ (minus ∷ plus ∷ later); count = n } in
+    let all = vs ++ (minus ∷ plus ∷ later) in
+    let d : MachineData = record { values = filled n all; count = n } in
     let many : length vs ≡ 13 = omega (arith, how-many x) in
-    let fine : seBelow (vs ++ (minus ∷ plus ∷ later)) 11 ≡ true = below-before-seam vs (minus ∷ plus ∷ later) 11 (omega (arith, many)) ∙ is-true (seBelow vs 11) right in
+    let fine : seBelow (filled n all) 11 ≡ true =
+        below-before-seam all _ 11 (omega (arith, many, length-append vs (minus ∷ plus ∷ later)))
+        ∙ below-before-seam vs (minus ∷ plus ∷ later) 11 (omega (arith, many)) ∙ is-true (seBelow vs 11) right in
     t .1
-    ∙ sym (ended-by (w ∷ (before ++ (from ++ rest))) d (t .0) fine (below-at-seam vs minus plus later 13 many ∙ is-false (ltZ minus plus) wrong))
+    ∙ sym (ended-by (w ∷ (before ++ (from ++ rest))) d (t .0) fine (below-filled n vs minus plus later 13 many ∙ is-false (ltZ minus plus) wrong))
     ∙ at-minus rest h size x y
 
 -- ---- what is refused is faulty
@@ -226,15 +235,18 @@ module _ (s : List ℕ) (n : ℕ) (head : IsWord (getD s 0 0) (W.Head n)) (size 
         let many : length (t .early) ≡ p = omega (arith, how-many (t .first)) in
         subst T (sym (below-at-seam (t .early) (t .minus) (t .plus) (t .later) p many) ∙ ap (λ (l : List ℤ). seBelow l p) (sym (t .values)) ∙ q)
 
-    ends-fault : (at : ℕ) {why : Refusal} → ends s (record { values = vs; count = n }) at ≡ refusedList why → IsFault s why
+    ends-fault : (at : ℕ) {why : Refusal} → ends s (record { values = filled n vs; count = n }) at ≡ refusedList why → IsFault s why
     unfolding ends
-    ends-fault at {why} = go (seBelow vs 11) refl (seBelow vs 13) refl
+    ends-fault at {why} = go (seBelow (filled n vs) 11) (as-filled 11 (omega (arith, enough))) (seBelow (filled n vs) 13) (as-filled 13 (omega (arith, enough)))
       where
-        enough : n ≡ dataCount
-        enough = eqb→eq n dataCount size
+        enough : 51 ≤ n
+        enough = head-bounds n size .0
+
+        as-filled : (k : ℕ) → suc k < n → seBelow vs k ≡ seBelow (filled n vs) k
+        as-filled k h = sym (below-before-seam vs _ k (omega (arith, h, how-many x)))
 
         go : (a : Bool) → seBelow vs 11 ≡ a → (b : Bool) → seBelow vs 13 ≡ b →
-            cond a (cond b (acceptedList (record { values = vs; count = n }) at) (refusedList (SeEnds (placeOf s 13)))) (refusedList (SeEnds (placeOf s 11))) ≡ refusedList why → IsFault s why
+            cond a (cond b (acceptedList (record { values = filled n vs; count = n }) at) (refusedList (SeEnds (placeOf s 13)))) (refusedList (SeEnds (placeOf s 11))) ≡ refusedList why → IsFault s why
         go false p b q g = let t = pair 11 (omega (arith, enough)) in put (t .laid) (ap SeEnds (sym (t .place)) ∙ answer g) (se1 rest head size (t .first) (t .second) (wrong 11 t p))
         go true p false q g =
             let t = pair 13 (omega (arith, enough)) in
@@ -248,7 +260,7 @@ module _ (s : List ℕ) (n : ℕ) (head : IsWord (getD s 0 0) (W.Head n)) (size 
     where
       go : Walked why → IsFault s why
       go (faulty x) = x
-      go (complete {ws = ws} rest x e) = ends-fault rest x e (1 + length ws) (sym (all-passed (eqb→eq n dataCount size) x s rest e) ∙ r)
+      go (complete {ws = ws} rest x e) = ends-fault rest x e (1 + length ws) (sym (all-passed x s rest e) ∙ r)
 
 pub refused : (s : List ℕ) (why : Refusal) → (readList s ≡ refusedList why) ↔ IsFault s why
 unfolding readList

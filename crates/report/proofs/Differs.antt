@@ -1,10 +1,10 @@
 -- Two numbers of 32 bits differ where their distance is above 0, by the laws of sums of integers. Assumes nothing.
 use Prim.Native.Nat.{ℕ, zero, suc, _<_}
-use mathlib.Core.Bool.{Bool, true, false, not}
-use mathlib.Core.Path.{_≡_, refl, sym, _∙_, ap}
+use mathlib.Core.Bool.{Bool, true, false, not, _||_}
+use mathlib.Core.Path.{_≡_, refl, sym, _∙_, ap, subst}
 use native.Mathlib.Omega.{arith}
-use borrow.Author.Tests.{lt-ltb, eqb-true, eqb-false, ltb-false}
-use lib.Dec.{ltb, eqb}
+use borrow.Author.Tests.{lt-ltb, eq-eqb, ne-eqb, eqb-true, eqb-false, ltb-false}
+use lib.Dec.{T, ltb, eqb}
 use lib.IntN.{ℤ, pos, negsuc, natAbs, _-ℤ_, +ℤ-idl, +ℤ-invr, -ℤ-+ℤ-cancel}
 use mir.Facts.{toZ-ofZ}
 use mir.Syntax.{w32}
@@ -38,12 +38,21 @@ differ a b f g = go (eqb (ofZ w32 a) (ofZ w32 b)) refl
         above zero q = absurd (eqb-false _ _ e (ap (ofZ w32) (apart-none a b q)))
         above (suc n) q = omega arith
 
--- "12 datum k differs"
+-- "12 datum k differs"; W1: "cause 12 also stands where heads differ"
 module _ (m : MachineData) (k : ℕ) (o : Report) where
-  pub datum-same : datumDiffers m k o ≡ false → entryOf (m .values) k ≡ o .datum
+  pub heads-differ : (m .count ≡ o .head → ⊥) → datumDiffers m k o ≡ true
   unfolding datumDiffers
-  datum-same e = apart-none (entryOf (m .values) k) (o .datum) (omega (arith, ltb-false 0 (natAbs (entryOf (m .values) k -ℤ o .datum)) e))
+  heads-differ h = simp (ne-eqb (m .count) (o .head) h)
 
-  pub same-datum : entryOf (m .values) k ≡ o .datum → datumDiffers m k o ≡ false
+  pub datum-same : datumDiffers m k o ≡ false → (m .count ≡ o .head) × (entryOf (m .values) k ≡ o .datum)
   unfolding datumDiffers
-  same-datum e = rw (same-apart (entryOf (m .values) k) (o .datum) e)
+  datum-same e = go (eqb (m .count) (o .head)) refl e
+    where
+      go : (t : Bool) → eqb (m .count) (o .head) ≡ t → (not t || ltb 0 (natAbs (entryOf (m .values) k -ℤ o .datum))) ≡ false →
+          (m .count ≡ o .head) × (entryOf (m .values) k ≡ o .datum)
+      go true q e = (eqb-true (m .count) (o .head) q, apart-none (entryOf (m .values) k) (o .datum) (omega (arith, ltb-false 0 (natAbs (entryOf (m .values) k -ℤ o .datum)) e)))
+      go false q e = absurd (subst T e tt)
+
+  pub same-datum : m .count ≡ o .head → entryOf (m .values) k ≡ o .datum → datumDiffers m k o ≡ false
+  unfolding datumDiffers
+  same-datum h e = simp (eq-eqb (m .count) (o .head) h, same-apart (entryOf (m .values) k) (o .datum) e)

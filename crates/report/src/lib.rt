@@ -6,11 +6,12 @@ use inputs::Reading;
 use machine_data::Values;
 use ranges::DATA;
 
-// The other channel's position, input word and datum k.
+// The other channel's position, input word, datum k and head: how many data its list has.
 pub struct Report {
     pub position: i32,
     pub inputs: u32,
     pub datum: i32,
+    pub head: usize,
 }
 
 // The number of the datum after k, in a list of so many.
@@ -32,6 +33,7 @@ pub fn report_of(values: &Values, count: usize, k: u8, reading: Reading) -> Repo
         position: reading.position,
         inputs: reading.inputs,
         datum: machine_data::entry(values, k as usize),
+        head: count,
     }
 }
 
@@ -39,5 +41,8 @@ pub fn report_of(values: &Values, count: usize, k: u8, reading: Reading) -> Repo
 pub fn datum_differs(values: &Values, count: usize, k: u8, report: Report) -> bool
     ensures { λ r. ⌜ r ≡ datumDiffers (lent (now (values .entry)) count) k report ⌝ }
 {
+    if count != report.head {
+        return true;
+    }
     machine_data::entry(values, k as usize) != report.datum
 }

@@ -5,12 +5,12 @@ use Prim.Native.Nat.{ℕ, _+_, _*_, _%_, _≤_}
 use native.Mathlib.Nat.{mul-le-mul}
 use native.Mathlib.Omega.{arith}
 use lib.IntN.{ℤ}
-use lib.Dec.{eqb, lit<}
+use lib.Dec.{eqb}
 use mir.Facts.{fits-le, fits-lit}
 use mir.Syntax.{w64}
 use mir.Val.{Fits}
 use Rattle.machine_data.specs.Data.{numberOf}
-use Rattle.machine_data.proofs.Bounds.{between, cycle}
+use Rattle.machine_data.proofs.Bounds.{between}
 use Rattle.speed.specs.Speed.{percentOf, speedOf}
 
 -- two numbers that are at most as large as any datum multiply within 64 bits
@@ -41,19 +41,3 @@ module _ (d : List ℤ) where
     pub speed-most : speedOf d n o ≤ 100_000_000
     unfolding speedOf
     speed-most = mul-le-mul {n₂ = 1_000_000} {m₂ = 100} (limit .1) (percent n o .1)
-
-    -- limit × percent × T
-    pub speed-time : speedOf d n o * numberOf d 0 ≤ 2_500_000_000
-    speed-time = mul-le-mul {n₂ = 100_000_000} {m₂ = 25} speed-most (cycle d .1)
-
-  -- a datum × T
-  pub number-time : (k most : ℕ) → numberOf d k ≤ most → numberOf d k * numberOf d 0 ≤ most * 25
-  number-time k most h = mul-le-mul {n₂ = most} {m₂ = 25} h (cycle d .1)
-
-  -- nx × T
-  pub nx-time : numberOf d 25 * numberOf d 0 ≤ 25_000_000
-  nx-time = number-time 25 1_000_000 (between d 25 1 0 1_000_000 0 tt (lit< tt) (omega arith) .1)
-
-  -- shutdown speed × T
-  pub shutdown-time : numberOf d 33 * numberOf d 0 ≤ 25_000_000
-  shutdown-time = number-time 33 1_000_000 (between d 33 1 0 1_000_000 0 tt (lit< tt) (omega arith) .1)

@@ -1,8 +1,16 @@
-// Speeds compared without a division: a step in a cycle against a speed times the cycle's length.
+// Speeds compared without a division: a step in a cycle, times its gear's ratio, against a speed times the cycle's length.
 ghost use mathlib.Core.Path.{_≡_};
-ghost use Rattle.speed.specs.Speed.{percentOf, speedOf, tooFast, slower};
+ghost use Prim.Native.Nat.{_≤_};
+ghost use Rattle.speed.specs.Speed.{percentOf, speedOf, loadStep, loadTime, tooFast, slower};
+use machine_data::Ratio;
 use machine_data::Values;
 use machine_data::numbers;
+
+// The step of a cycle, |d|, and the ratio of its gear.
+pub struct Step {
+    pub moved: u32,
+    pub ratio: Ratio,
+}
 
 // An SG by its number less one, with the number of its override.
 pub struct Sg {
@@ -28,17 +36,34 @@ pub fn sg_speed(values: &Values, sg: Sg) -> u64
     machine_data::sg_limit(values, sg.number) * sg_percent(values, sg)
 }
 
-// Whether a step is over the limit of an SG.
-pub fn too_fast(values: &Values, moved: u32, sg: Sg) -> bool
-    ensures { λ r. ⌜ r ≡ tooFast (now (values .entry)) moved (sg .number) (sg .over) ⌝ }
+// The load's step, as a multiple of the denominator's part of it.
+fn load_step(step: Step) -> u64
+    ensures { λ r. ⌜ r ≡ loadStep step ⌝ }
+    ensures { λ r. ⌜ r ≤ 281470681677825 ⌝ }
 {
-    sg_speed(values, sg) * machine_data::number(values, numbers::CYCLE_TIME) < (moved as u64) * 6000
+    let ratio = step.ratio;
+    (step.moved as u64) * (ratio.numerator as u64)
+}
+
+// The cycle's length, as often as the denominator says.
+fn load_time(values: &Values, step: Step) -> u64
+    ensures { λ r. ⌜ r ≡ loadTime (now (values .entry)) step ⌝ }
+    ensures { λ r. ⌜ r ≤ 1638375 ⌝ }
+{
+    let ratio = step.ratio;
+    machine_data::number(values, numbers::CYCLE_TIME) * (ratio.denominator as u64)
+}
+
+// Whether a step is over the limit of an SG.
+pub fn too_fast(values: &Values, step: Step, sg: Sg) -> bool
+    ensures { λ r. ⌜ r ≡ tooFast (now (values .entry)) step (sg .number) (sg .over) ⌝ }
+{
+    sg_speed(values, sg) * load_time(values, step) < load_step(step) * 6000
 }
 
 // Whether a step is below the speed that is datum k.
-pub fn slower(values: &Values, moved: u32, k: usize) -> bool
-    ensures { λ r. ⌜ r ≡ slower (now (values .entry)) moved k ⌝ }
+pub fn slower(values: &Values, step: Step, k: usize) -> bool
+    ensures { λ r. ⌜ r ≡ slower (now (values .entry)) step k ⌝ }
 {
-    (moved as u64) * 60
-        < machine_data::number(values, k) * machine_data::number(values, numbers::CYCLE_TIME)
+    load_step(step) * 60 < machine_data::number(values, k) * load_time(values, step)
 }

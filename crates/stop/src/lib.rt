@@ -7,6 +7,7 @@ use inputs::Reading;
 use machine_data::Values;
 use machine_data::numbers;
 use rank::Rank;
+use speed::Step;
 
 pub enum Stop {
     // Rank 0.
@@ -49,12 +50,12 @@ impl Stop {
     }
 
     // B becomes A at count 0, or where the axis is slower than the shutdown speed, which nothing else asks for.
-    fn braked_at(values: &Values, moved: u32, n: u32) -> Stop
-        ensures { λ s. ⌜ s ≡ brakedAt (slower (now (values .entry)) moved 33) n ⌝ }
+    fn braked_at(values: &Values, step: Step, n: u32) -> Stop
+        ensures { λ s. ⌜ s ≡ brakedAt (slower (now (values .entry)) step 33) n ⌝ }
     {
         if n == 0 {
             Stop::Cancelled
-        } else if speed::slower(values, moved, numbers::SHUTDOWN_SPEED) {
+        } else if speed::slower(values, step, numbers::SHUTDOWN_SPEED) {
             Stop::Cancelled
         } else {
             Stop::Braking(Rank::B, n)
@@ -62,49 +63,49 @@ impl Stop {
     }
 
     // A stop of rank r with n cycles left.
-    fn at_count(values: &Values, moved: u32, reading: Reading, r: Rank, n: u32) -> Stop
-        ensures { λ s. ⌜ s ≡ atCount (slower (now (values .entry)) moved 33) (reading .position) r n ⌝ }
+    fn at_count(values: &Values, step: Step, reading: Reading, r: Rank, n: u32) -> Stop
+        ensures { λ s. ⌜ s ≡ atCount (slower (now (values .entry)) step 33) (reading .position) r n ⌝ }
     {
         match r {
             Rank::None => Stop::Free,
             Rank::E => Stop::held_at(r, n, reading),
             Rank::D => Stop::held_at(r, n, reading),
             Rank::C => Stop::held_at(r, n, reading),
-            Rank::B => Stop::braked_at(values, moved, n),
+            Rank::B => Stop::braked_at(values, step, n),
             Rank::A => Stop::Cancelled,
         }
     }
 
     // No cause is entered: the count falls by one.
-    fn fallen(self, values: &Values, moved: u32, reading: Reading) -> Stop
-        ensures { λ s. ⌜ s ≡ settledOf (slower (now (values .entry)) moved 33) (reading .position) (countedOf self) ⌝ }
+    fn fallen(self, values: &Values, step: Step, reading: Reading) -> Stop
+        ensures { λ s. ⌜ s ≡ settledOf (slower (now (values .entry)) step 33) (reading .position) (countedOf self) ⌝ }
     {
         match self {
             Stop::Free => self,
-            Stop::Braking(r, n) => Stop::at_count(values, moved, reading, r, less_one(n)),
+            Stop::Braking(r, n) => Stop::at_count(values, step, reading, r, less_one(n)),
             Stop::Held(_, _) => self,
             Stop::Cancelled => self,
         }
     }
 
-    // Step 5 of a cycle, in which the axis moved so far.
+    // Step 5 of a cycle with such a step of the axis.
     pub fn next(
         self,
         values: &Values,
         clears: bool,
         strongest: Rank,
-        moved: u32,
+        step: Step,
         reading: Reading,
     ) -> Stop
-        ensures { λ s. ⌜ s ≡ stopNext (now (values .entry)) clears strongest (slower (now (values .entry)) moved 33) (reading .position) self ⌝ }
+        ensures { λ s. ⌜ s ≡ stopNext (now (values .entry)) clears strongest (slower (now (values .entry)) step 33) (reading .position) self ⌝ }
     {
         if clears {
             return Stop::Free;
         }
         if self.rank().number() < strongest.number() {
-            Stop::at_count(values, moved, reading, strongest, strongest.time(values))
+            Stop::at_count(values, step, reading, strongest, strongest.time(values))
         } else {
-            self.fallen(values, moved, reading)
+            self.fallen(values, step, reading)
         }
     }
 }

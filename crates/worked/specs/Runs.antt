@@ -4,7 +4,8 @@ use mathlib.Core.Bool.{false}
 use mathlib.Core.List.{List, [], _∷_}
 use lib.ListN.{set}
 use lib.IntN.{ℤ, pos}
-use Rattle.ranges.specs.Table.{dataCount, lowOf}
+use Rattle.ranges.specs.Table.{lowOf}
+use Rattle.list.specs.IsList.{filled}
 use Rattle.machine_data.specs.declared.MachineData.{MachineData}
 use Rattle.seven.specs.declared.CycleRecord.{CycleRecord}
 use Rattle.records.specs.Records.{reading}
@@ -31,7 +32,7 @@ withEntries d (e ∷ es) = withEntries (set d (e .number) (e .value)) es
 
 -- "12 and 14=100,000,000 .. else lowest", and the entries
 unfoldable pub listOf : List Entry → MachineData
-listOf es = record { values = withEntries (set (set (lowest dataCount 0) 12 (pos 100_000_000)) 14 (pos 100_000_000)) es; count = dataCount }
+listOf es = record { values = filled 51 (withEntries (set (set (lowest 51 0) 12 (pos 100_000_000)) 14 (pos 100_000_000)) es); count = 51 }
 
 -- a cycle of both channels: alike in position and input word, or apart in one of them
 abbrev pub alike : ℤ → ℕ → CycleRecord

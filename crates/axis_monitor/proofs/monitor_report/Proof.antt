@@ -1,7 +1,10 @@
 -- `axis_monitor::monitor_report` meets its contract. Assumes nothing.
 use Rattle.crossing_reports.specs.Reports.{reportWords}
 use mathlib.Core.Path.{_≡_, ap, _∙_}
+use Prim.Native.Nat.{_<_}
+use native.Mathlib.Omega.{arith}
 use mir.Syntax.{w32}
+use Rattle.report.specs.declared.Report.{Report}
 use mir.Val.{SFits}
 use mir.Facts.{toZ-ofZ}
 use denote.Ref.{now}
@@ -24,8 +27,9 @@ report-words-requires c κs = search needs
 
 returns : tie.Need-returns
 returns c = let a = c .before .before .before .before .args in let f : SFits w32 (a .position) = c .before .before .before .before .fits .position in
-    let e : c .before .report-of .result ≡ reportedBy (now (a .values)) (now (a .state)) (a .position) (a .inputs) = simp (c .before .report-of .ensures) (simp (toZ-ofZ f, c .before .before .state-from .ensures)) in
-    record { words = c .report-words .ensures .0 ∙ ap reportWords e; back = c .report-words .ensures .1 ∙ e }
+    let e : c .before .report-of .result ≡ reportedBy (now (a .values)) (now (a .state)) (a .position) (a .inputs) = simp (c .before .report-of .ensures) (simp (toZ-ofZ f, c .before .before .state-from .ensures, c .before .before .before .count-of .ensures .0)) in
+    let few : c .before .report-of .result .head < 4_294_967_296 = omega (arith, ap (λ (r : Report). r .head) (c .before .report-of .ensures), c .before .before .before .count-of .ensures .1) in
+    record { words = c .report-words .ensures .0 ∙ ap reportWords e; back = c .report-words .ensures .1 few ∙ e }
 
 pub monitor-report-spec : {M : Type 1} → statement M
 monitor-report-spec =

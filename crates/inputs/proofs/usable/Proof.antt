@@ -27,13 +27,13 @@ returns : tie.Need-returns
 unfolding usableOf
 returns c = simp (lt-leb (natAbs (c .before .before .before .before .args .reading .position)) 100_000_000 (omega (arith, away (c .before))))
 
-spare-off-requires : tie.Need-spare-off-requires
-spare-off-requires c κs = search needs
+bits-usable-requires : tie.Need-bits-usable-requires
+bits-usable-requires c κs = search needs
 
 returns-2 : tie.Need-returns-2
 unfolding usableOf
-returns-2 c = simp (le-leb (natAbs (c .before .before .before .before .before .args .reading .position)) 100_000_000 (omega (arith, away (c .before .before))), c .spare-off .ensures)
+returns-2 c = simp (le-leb (natAbs (c .before .before .before .before .before .args .reading .position)) 100_000_000 (omega (arith, away (c .before .before))), c .bits-usable .ensures)
 
 pub usable-spec : {M : Type 1} → statement M
 usable-spec =
-    tie.close (tie.spec cast-magnitude magnitude-requires returns spare-off-requires returns-2)
+    tie.close (tie.spec cast-magnitude magnitude-requires returns bits-usable-requires returns-2)

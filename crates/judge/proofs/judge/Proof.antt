@@ -1,18 +1,15 @@
 -- `judge::judge` meets its contract. Assumes nothing.
-use mir.Syntax.{w32}
-use mir.Val.{SFits}
-use mir.Facts.{toZ-ofZ}
 use mathlib.Core.Path.{_≡_, ap, _∙_}
 use denote.Ref.{now}
 use Rattle.machine_data.specs.Data.{lent}
 use Rattle.causes.specs.Causes.{summaryOf}
-use Rattle.judge.specs.Causes.{movedIn, choiceIn, differingIn, differencesIn, faultIn, usableRows}
+use Rattle.judge.specs.Causes.{stepIn, choiceIn, differingIn, differencesIn, faultIn, usableRows}
 use borrow.Author.Needs.{needs}
 use Rattle.judge.proofs.judge.Statement.{statement}
 use Rattle.judge.proofs.judge.Tie as tie
 
-moved-to-requires : tie.Need-moved-to-requires
-moved-to-requires c κs = search needs
+step-of-requires : tie.Need-step-of-requires
+step-of-requires c κs = search needs
 
 selected-requires : tie.Need-selected-requires
 selected-requires c κs = search needs
@@ -47,27 +44,23 @@ rows-requires c κs = search needs
 of-requires : tie.Need-of-requires
 of-requires c κs = search needs
 
-position-fits : (c : tie.Start) → SFits w32 (c .args .given .reading .position)
-position-fits c = search needs
-
 returns : tie.Need-returns
 unfolding choiceIn differingIn differencesIn faultIn usableRows
 returns c =
-    let a = c .before .before .before .before .before .before .before .before .before .before .before .before .before .before .before .before .before .before .args in
+    let a = c .before .before .before .before .before .before .before .before .before .before .before .before .before .before .before .before .before .args in
     let m = lent (now (a .values)) (a .count) in
-    let fp = toZ-ofZ (position-fits (c .before .before .before .before .before .before .before .before .before .before .before .before .before .before .before .before .before .before)) in
-    let moved : c .before .before .before .before .before .before .before .before .before .before .before .moved-to .result ≡ movedIn (a .state) (a .given) = simp (c .before .before .before .before .before .before .before .before .before .before .before .moved-to .ensures, fp) in
+    let step : c .before .before .before .before .before .before .before .before .before .before .before .step-of .result ≡ stepIn m (a .state) (a .given) = c .before .before .before .before .before .before .before .before .before .before .before .step-of .ensures in
     let choice : c .before .before .before .before .before .before .before .before .before .next .result ≡ choiceIn m (a .state) (a .given) = simp (c .before .before .before .before .before .before .before .before .before .next .ensures, c .before .before .before .before .before .before .before .before .before .before .selected .ensures) in
     let differing : c .before .before .before .before .before .before .before .before .run .result ≡ differingIn (a .state) (a .given) = simp (c .before .before .before .before .before .before .before .before .run .ensures) in
     let fault : c .before .before .before .next2 .result ≡ faultIn m (a .state) (a .given) = simp (c .before .before .before .next2 .ensures, c .before .before .before .before .any .ensures, c .before .before .before .before .before .datum-differs .ensures, c .before .before .before .before .before .before .inputs-differ .ensures, c .before .before .before .before .before .before .before .position-differs .ensures, c .before .before .before .before .before .before .before .before .run .ensures) in
-    let rows : c .before .rows .result ≡ usableRows m (a .state) (a .given) = simp (c .before .rows .ensures, c .before .before .expired .ensures, c .before .before .before .next2 .ensures, c .before .before .before .before .any .ensures, c .before .before .before .before .before .datum-differs .ensures, c .before .before .before .before .before .before .inputs-differ .ensures, c .before .before .before .before .before .before .before .position-differs .ensures, c .before .before .before .before .before .before .before .before .run .ensures, c .before .before .before .before .before .before .before .before .before .next .ensures, c .before .before .before .before .before .before .before .before .before .before .selected .ensures, c .before .before .before .before .before .before .before .before .before .before .before .moved-to .ensures, fp) in
-    λ i. record { moved = moved i; choice = choice i; differing = differing i; fault = fault i; rows = rows i; summary = (c .of .ensures ∙ ap summaryOf rows) i }
+    let rows : c .before .rows .result ≡ usableRows m (a .state) (a .given) = simp (c .before .rows .ensures, c .before .before .expired .ensures, c .before .before .before .next2 .ensures, c .before .before .before .before .any .ensures, c .before .before .before .before .before .datum-differs .ensures, c .before .before .before .before .before .before .inputs-differ .ensures, c .before .before .before .before .before .before .before .position-differs .ensures, c .before .before .before .before .before .before .before .before .run .ensures, c .before .before .before .before .before .before .before .before .before .next .ensures, c .before .before .before .before .before .before .before .before .before .before .selected .ensures, c .before .before .before .before .before .before .before .before .before .before .before .step-of .ensures) in
+    λ i. record { step = step i; choice = choice i; differing = differing i; fault = fault i; rows = rows i; summary = (c .of .ensures ∙ ap summaryOf rows) i }
 
 pub judge-spec : {M : Type 1} → statement M
 judge-spec =
     tie.close
     (tie.spec
-    moved-to-requires
+    step-of-requires
     selected-requires
     next-requires
     run-requires

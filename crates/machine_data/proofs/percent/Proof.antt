@@ -5,7 +5,7 @@ use native.Mathlib.Omega.{arith}
 use lib.IntN.{pos}
 use mir.Syntax.{w32}
 use mir.ValLaws.{toZ-ofZ}
-use Rattle.ranges.specs.Table.{dataCount, lowOf, highOf}
+use Rattle.ranges.specs.Table.{lowOf, highOf}
 use Rattle.ranges.proofs.Ends.{along}
 use Rattle.machine_data.specs.Data.{size, numberOf}
 use borrow.Author.Needs.{needs}
@@ -19,7 +19,7 @@ add-read : tie.Need-add-read
 add-read c = search needs
 
 read-requires : tie.Need-read-requires
-read-requires c κs = let below : 35 + c .args .n % 16 < dataCount = omega arith in
+read-requires c κs = let below : 35 + c .args .n % 16 < 51 = omega arith in
     (omega (arith, below), (along lowOf (pos 1) 35 16 _ tt (omega arith) below, along highOf (pos 100) 35 16 _ tt (omega arith) below))
 
 size-requires : tie.Need-size-requires

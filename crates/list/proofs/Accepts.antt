@@ -210,7 +210,7 @@ in-ranges s n e k h = of-list (accepted s (readList s .list) n .0 (whole-answer 
     of-list {d} (list {vs = vs} w size x values a b) h =
         let same : k + 0 ≡ k = omega arith in
         let at : getD vs k (pos 0) ≡ getD (d .values) k (pos 0) =
-            sym (List·getD-append vs (replicate (dataCount - d .count) (pos 0)) (pos 0) k (omega (arith, h, how-many x))) ∙ ap (λ (l : List ℤ). getD l k (pos 0)) (sym values) in
+        sym (List·getD-append vs (replicate (dataCount - d .count) (pos 0)) (pos 0) k (omega (arith, h, how-many x))) ∙ ap (λ (l : List ℤ). getD l k (pos 0)) (sym values) in
         subst (λ (z : ℤ). T (inRange k z)) at (subst (λ (n : ℕ). T (inRange n (getD vs k (pos 0)))) same (of-data x k (omega (arith, h))))
 
 -- and each that it lacks stands as 0

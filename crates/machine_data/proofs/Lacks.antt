@@ -10,7 +10,7 @@ use lib.ListN.{getD}
 use lib.IntN.{ℤ, pos}
 use Rattle.ranges.specs.Table.{dataCount, lowOf, highOf}
 use Rattle.machine_data.specs.Data.{nearest, datumOf, size, numberOf, lackedOf}
-use Rattle.machine_data.proofs.Bounds.{each, each-at}
+use Rattle.machine_data.proofs.Bounds.{each-at}
 
 -- datum 51 + i, from 0
 read-as-lacked : ℕ → Bool
@@ -23,6 +23,6 @@ lacks d k h l none =
     let behind : 51 + (k - 51) ≡ k = omega arith in
     let at : numberOf d k ≡ size (nearest (lowOf k) (highOf k) (pos 0)) = simp (lt-ltb k dataCount l, none) in
     let same : size (nearest (lowOf k) (highOf k) (pos 0)) ≡ lackedOf k =
-        subst (λ (j : ℕ). size (nearest (lowOf j) (highOf j) (pos 0)) ≡ lackedOf j) behind
-        (eqb→eq _ _ (each-at read-as-lacked (dataCount - 51) (k - 51) tt (omega arith))) in
+    subst (λ (j : ℕ). size (nearest (lowOf j) (highOf j) (pos 0)) ≡ lackedOf j) behind
+    (eqb→eq _ _ (each-at read-as-lacked (dataCount - 51) (k - 51) tt (omega arith))) in
     at ∙ same

@@ -1,6 +1,6 @@
 -- The ranges of the machine data: document 01, "Machine data", and W1.
 use Prim.Native.Nat.{ℕ}
-use mathlib.Core.List.{List, [], _∷_}
+use mathlib.Core.List.{List, [], _∷_, _++_}
 use mathlib.Core.Bool.{Bool, cond, _&&_}
 use lib.IntN.{ℤ, pos, negsuc}
 use lib.Signed.{leZ}
@@ -24,9 +24,9 @@ to last low high = record { last = last; low = low; high = pos high }
 abbrev pub position : ℕ → Row
 position last = to last (negsuc 99_999_999) 100_000_000
 
--- one row of the paper a line
-abbrev pub rows : List Row
-rows =
+-- one row of document 01's table a line
+abbrev pub baseRows : List Row
+baseRows =
     -- T
     to 0 (pos 1) 25
     -- functions
@@ -59,11 +59,15 @@ rows =
     ∷ to 34 (pos 0) 1_000
     -- override percent 0 to 15
     ∷ to 50 (pos 1) 100
-    -- W1: "Data 51 to 58 are the numerators .., each 1 to 1000"
-    ∷ to 58 (pos 1) 1_000
-    -- W1: "and 59 to 66 the denominators"
-    ∷ to 66 (pos 1) 1_000
     ∷ []
+
+-- W1: "Data 51 to 58 are the numerators and 59 to 66 the denominators, each 1 to 1000"
+abbrev pub gearRows : List Row
+gearRows = to 58 (pos 1) 1_000 ∷ to 66 (pos 1) 1_000 ∷ []
+
+-- the whole table: a list of fewer data has its front
+abbrev pub rows : List Row
+rows = baseRows ++ gearRows
 
 -- the row of datum k: the first that goes as far
 abbrev pub rowOf : List Row → ℕ → Row

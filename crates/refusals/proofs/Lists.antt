@@ -143,8 +143,8 @@ refuses (se2 {w} {n} {minus} {plus} {vs} {later} {before} {behind = from} rest h
     let d : MachineData = record { values = filled n all; count = n } in
     let many : length vs ≡ 13 = omega (arith, how-many x) in
     let fine : seBelow (filled n all) 11 ≡ true =
-        below-before-seam all _ 11 (omega (arith, many, length-append vs (minus ∷ plus ∷ later)))
-        ∙ below-before-seam vs (minus ∷ plus ∷ later) 11 (omega (arith, many)) ∙ is-true (seBelow vs 11) right in
+    below-before-seam all _ 11 (omega (arith, many, length-append vs (minus ∷ plus ∷ later)))
+    ∙ below-before-seam vs (minus ∷ plus ∷ later) 11 (omega (arith, many)) ∙ is-true (seBelow vs 11) right in
     t .1
     ∙ sym (ended-by (w ∷ (before ++ (from ++ rest))) d (t .0) fine (below-filled n vs minus plus later 13 many ∙ is-false (ltZ minus plus) wrong))
     ∙ at-minus rest h size x y

@@ -1,1 +1,2 @@
 pub mod Speed
+pub mod Load

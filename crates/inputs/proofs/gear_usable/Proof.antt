@@ -1,5 +1,4 @@
 -- `inputs::gear_usable` meets its contract, by its one test. Assumes nothing.
-use mathlib.Core.Path.{_∙_}
 use native.Mathlib.Omega.{arith}
 use borrow.Author.Tests.{le-leb, lt-leb}
 use borrow.Author.Needs.{needs}

@@ -1,7 +1,6 @@
 -- `report::datum_differs` meets its contract: the bits differ where the numbers do. Assumes nothing.
 use mathlib.Core.Path.{sym, _∙_}
 use borrow.Author.Tests.{eq-eqb}
-use native.Mathlib.Omega.{arith}
 use mir.Syntax.{w32}
 use mir.Val.{SFits}
 use Rattle.machine_data.specs.Data.{lent}

@@ -1,8 +1,7 @@
 -- `speed::load_step` meets its contract: a step of 32 bits times a numerator of 16. Assumes nothing.
 use mathlib.Core.Path.{refl}
-use Prim.Native.Nat.{_*_, _≤_}
+use Prim.Native.Nat.{_≤_}
 use native.Mathlib.Nat.{mul-le-mul}
-use native.Mathlib.Omega.{arith}
 use mir.Facts.{fits-le, fits-lit}
 use borrow.Author.Needs.{needs}
 use Rattle.speed.specs.Speed.{loadStep}

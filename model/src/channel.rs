@@ -2,13 +2,14 @@
 
 use crate::causes::{self, Causes, Run, F};
 use crate::deviation::{paper, Paper, Reading};
+use crate::gear::{Ratio, GEAR_BITS};
 use crate::machine_data::{number, Function, MachineData, COUNT};
 use crate::selection::{Selection, Selections};
 use crate::stop::{Rank, Stop};
 
 pub mod image;
 
-/// The input bits that have a meaning: "Every other bit must be 0."
+/// The input bits that have a meaning in every list: "Every other bit must be 0."
 pub const INPUT_BITS: u32 = 0xf03c_101b;
 
 /// "outside ±100,000,000"
@@ -22,13 +23,14 @@ pub fn bit(word: u32, number: u32) -> bool {
 
 /// "Inputs are unusable if one is not, or if the position lies outside ±100,000,000."
 #[inline]
-pub fn usable<R: Reading>(r: R, position: i32, inputs: u32) -> bool {
-    let bits = paper!(r, INPUT_BITS,
+pub fn usable<R: Reading>(r: R, data: &MachineData, position: i32, inputs: u32) -> bool {
+    let free = free_bits(r, data);
+    let bits = paper!(r, free,
         OtherBitsIgnored => u32::MAX,
-        Bit2Ignored => INPUT_BITS | 1 << 2,
-        Bits5To11Ignored => INPUT_BITS | 0x7f << 5,
-        Bits13To17Ignored => INPUT_BITS | 0x1f << 13,
-        Bits22To27Ignored => INPUT_BITS | 0x3f << 22);
+        Bit2Ignored => free | 1 << 2,
+        Bits5To11Ignored => free | 0x7f << 5,
+        Bits13To17Ignored => free | 0x1f << 13,
+        Bits22To27Ignored => free | 0x3f << 22);
     let inside = paper!(r, position.unsigned_abs() <= FARTHEST,
         Position100000001Usable => position.unsigned_abs() <= FARTHEST + 1,
         Position100000000Unusable => position.unsigned_abs() < FARTHEST,
@@ -37,12 +39,37 @@ pub fn usable<R: Reading>(r: R, position: i32, inputs: u32) -> bool {
     inputs & !bits == 0 && inside
 }
 
-/// "A channel's report in a cycle is that cycle's position and whole input word and its datum k."
+/// "Every other bit must be 0."; W1: "Input bits 8 to 10 pick one of eight ratios", and with a list headed 51
+/// "bits 8 to 10 being 0 as before"
+#[inline]
+fn free_bits<R: Reading>(r: R, data: &MachineData) -> u32 {
+    let gears = data.head() >= COUNT;
+    let gears = paper!(r, gears,
+        GearBitsUsableAt51 => true,
+        GearBitsUnusableAt67 => false,
+        GearNeedsSbhSg => gears && data.has(r, Function::SbhSg));
+    let bits = paper!(r, GEAR_BITS,
+        GearBitsOneLower => GEAR_BITS >> 1,
+        GearBitsOneHigher => GEAR_BITS << 1,
+        FourRatios => 0x300,
+        Bit7Free => GEAR_BITS | 1 << 7,
+        Bit11Free => GEAR_BITS | 1 << 11);
+    if gears {
+        INPUT_BITS | bits
+    } else {
+        INPUT_BITS
+    }
+}
+
+/// "A channel's report in a cycle is that cycle's position and whole input word and its datum k."; W1: "The report
+/// carries the head too"
 #[derive(Clone, Copy, Debug, PartialEq, Eq)]
 pub struct Report {
     pub position: i32,
     pub inputs: u32,
     pub datum: i32,
+    /// How many data the list has.
+    pub head: usize,
 }
 
 /// What a cycle gives: the channel word and the causes that stood.
@@ -58,6 +85,8 @@ pub struct Moment {
     pub position: i32,
     /// "d = position less previous position"
     pub d: i64,
+    /// By which its speeds are compared.
+    pub ratio: Ratio,
     pub inputs: u32,
     pub selected: Selection,
     pub report: Report,
@@ -75,8 +104,9 @@ pub struct Channel {
     f: F,
     run: Run,
     cams: [bool; 8],
-    /// Of deviations only: the word to echo.
+    /// Of deviations only: the word to echo, and the ratio of a cycle before.
     echo: Option<u32>,
+    ratio: Option<Ratio>,
 }
 
 impl Channel {
@@ -97,6 +127,7 @@ impl Channel {
             run: Run(0),
             cams: paper!(r, [false; 8], CamsStartAt1 => [true; 8]),
             echo: None,
+            ratio: None,
         }
     }
 
@@ -122,22 +153,25 @@ impl Channel {
         report: Report,
     ) -> Cycle {
         let before = paper!(r, None, IdleStep => Some(*self));
-        let cycle = if usable(r, position, inputs) {
+        let usable = usable(r, &self.data, position, inputs);
+        let cycle = if usable {
             self.usable_cycle(r, position, inputs, acknowledged, report)
         } else {
             self.unusable_cycle(r, position, inputs, acknowledged, report)
         };
-        self.count_k(r, usable(r, position, inputs));
+        self.count_k(r, usable);
         self.wrong_program(r, cycle, before)
     }
 
-    /// "A channel's report in a cycle is that cycle's position and whole input word and its datum k."
+    /// "A channel's report in a cycle is that cycle's position and whole input word and its datum k."; W1: "The report
+    /// carries the head too"
     #[inline]
     pub fn report(&self, position: i32, inputs: u32) -> Report {
         Report {
             position,
             inputs,
             datum: self.data.get(self.k),
+            head: self.data.head(),
         }
     }
 
@@ -183,15 +217,20 @@ impl Channel {
         acknowledged: bool,
         report: Report,
     ) -> Cycle {
+        let (d, ratio) = self.step(r, position, inputs, report);
         let moment = Moment {
             position,
-            d: self.step(r, position),
+            d,
+            ratio,
             inputs,
             selected: Selection::of(r, &self.data, inputs),
             report,
             k: self.k,
         };
         let reference = paper!(r, position, SbhReferenceIsReport => report.position);
+        paper!(r, (),
+            OrderScaled => self.selections.ratio = ratio,
+            RatioWaits => self.selections.ratio = ratio);
         self.selections
             .advance(r, &self.data, moment.selected, reference);
         let causes = causes::of_cycle(
@@ -204,8 +243,9 @@ impl Channel {
             &mut self.f,
         );
         self.advance_stop(r, &causes, acknowledged, &moment);
-        self.move_cams(r, position);
-        let word = self.word(r, moment.selected, inputs, Some(moment.d));
+        let seen = paper!(r, position, CamsScaled => ratio.of_number(position.into()) as i32);
+        self.move_cams(r, seen);
+        let word = self.word(r, moment.selected, inputs, Some(&moment));
         self.previous = Some(position);
         paper!(r, (), ClearForgetsPrevious => {
             if self.clears(r, acknowledged, &causes) { self.previous = None }
@@ -213,13 +253,33 @@ impl Channel {
         Cycle { word, causes }
     }
 
-    /// "2. d = position less previous position, 0 if there is none."
+    /// "2. d = position less previous position, 0 if there is none.", and the ratio by which it is compared.
     #[inline]
-    fn step<R: Reading>(&self, r: R, position: i32) -> i64 {
-        match self.previous {
+    fn step<R: Reading>(
+        &mut self,
+        r: R,
+        position: i32,
+        inputs: u32,
+        report: Report,
+    ) -> (i64, Ratio) {
+        let d = match self.previous {
             Some(previous) => i64::from(position) - i64::from(previous),
             None => paper!(r, 0, FirstStepFromZero => position.into()),
-        }
+        };
+        let ratio = Ratio::of(r, &self.data, inputs);
+        paper!(r, (d, ratio),
+        RatioOfReport => (d, Ratio::of(r, &self.data, report.inputs)),
+        RatioOfCycleBefore => (d, self.ratio.replace(ratio).unwrap_or(ratio)),
+        RatioOfFirstCycle => (d, *self.ratio.get_or_insert(ratio)),
+        RatioTakenAtRest => {
+            if d == 0 || self.ratio.is_none() { self.ratio = Some(ratio) }
+            (d, self.ratio.unwrap_or(ratio))
+        },
+        StepOfScaledPositions => {
+            let before = self.ratio.replace(ratio).unwrap_or(ratio);
+            let scaled = |previous: i32| ratio.of_number(position.into()) - before.of_number(previous.into());
+            (self.previous.map_or(0, scaled), Ratio::ONE)
+        })
     }
 
     /// "5. Acknowledged and no fresh cause: rank 0, not held, F off. Else .."
@@ -243,7 +303,7 @@ impl Channel {
             let d = paper!(r, moment.d,
                 ShutdownNeedsPrevious => self.previous.map_or(i32::MAX.into(), |_| moment.d));
             self.stop
-                .advance(r, &self.data, strongest, moment.position, d);
+                .advance(r, &self.data, strongest, moment.position, d, moment.ratio);
         }
     }
 
@@ -290,41 +350,57 @@ impl Channel {
             CamToleranceBothSides => position < edge - tolerance)
     }
 
-    /// "n<nx: |d| × 60 < datum 25 × T.", "n<nx shows 0 in an unusable cycle"
+    /// "n<nx: |d| × 60 < datum 25 × T.", "n<nx shows 0 in an unusable cycle"; W1: the step "times numerator over
+    /// denominator, still without dividing"
     #[inline]
-    fn below_nx<R: Reading>(&self, r: R, d: Option<i64>) -> bool {
-        let Some(d) = d else {
+    fn below_nx<R: Reading>(&self, r: R, moment: Option<&Moment>) -> bool {
+        let Some(&Moment { d, ratio, .. }) = moment else {
             return paper!(r, false, UnusableNxShown => true);
         };
         let nx = self.data.get(number::NX);
-        paper!(r, d.abs() * 60 < self.data.times_t(nx),
-            NxAtBound => d.abs() * 60 <= self.data.times_t(nx),
-            NxSigned => d * 60 < self.data.times_t(nx),
-            NxWithoutT => d.abs() * 60 < i64::from(nx) * 12,
-            NxDivides => d.abs() < self.data.times_t(nx) / 60,
-            NxNeedsPrevious => self.previous.is_some() && d.abs() * 60 < self.data.times_t(nx))
+        let (step, bound) = (ratio.step(r, d), ratio.bound(self.data.times_t(nx)));
+        paper!(r, step.abs() * 60 < bound,
+            NxAtBound => step.abs() * 60 <= bound,
+            NxSigned => step * 60 < bound,
+            NxWithoutT => step.abs() * 60 < ratio.bound(i64::from(nx) * 12),
+            NxDivides => step.abs() < bound / 60,
+            NxNeedsPrevious => self.previous.is_some() && step.abs() * 60 < bound,
+            NxUnscaled => d.abs() * 60 < self.data.times_t(nx),
+            NxRatioDivides => ratio.of_number(d.abs()) * 60 < self.data.times_t(nx),
+            NxRatioDividesBound => d.abs() * 60 < ratio.of_bound(self.data.times_t(nx)))
     }
 
-    /// "k starts at 0, rises by one each cycle, and follows 50 by 0."
+    /// "k starts at 0, rises by one each cycle, and follows 50 by 0."; W1: "k runs over as many data as the list has."
     #[inline]
     fn count_k<R: Reading>(&mut self, r: R, usable: bool) {
-        let next = if self.k >= COUNT - 1 { 0 } else { self.k + 1 };
+        let rises = self.k + 1 < self.data.head();
+        let next = if rises { self.k + 1 } else { 0 };
         self.k = paper!(r, next,
             KStaysUnusable => if usable { next } else { self.k },
             KStays => 0,
             KOnlyTo49 => next % 50,
             KStopsAt50 => (self.k + 1).min(50),
-            KFromDatum1 => next.max(1));
+            KFromDatum1 => next.max(1),
+            KOnlyTo50 => next % 51,
+            KAlwaysTo66 => (self.k + 1) % 67,
+            KOnlyTo65 => next % 66,
+            KStopsAt66 => if self.k == 66 { 66 } else { next });
     }
 
     /// "Channel word: bit 0 SBH or SG effective, 2 pulses cancelled (rank 5), 7 always 1; .."
     #[inline]
-    fn word<R: Reading>(&self, r: R, selected: Selection, inputs: u32, d: Option<i64>) -> u32 {
+    fn word<R: Reading>(
+        &self,
+        r: R,
+        selected: Selection,
+        inputs: u32,
+        moment: Option<&Moment>,
+    ) -> u32 {
         let bit_7 = paper!(r, 1 << 7, Bit7Zero => 0);
         self.selection_bits(r, selected, inputs)
             | bit_7
-            | self.signal_bits(r, d)
-            | self.stop_bits(r, d)
+            | self.signal_bits(r, moment)
+            | self.stop_bits(r, moment)
     }
 
     /// "bit 0 SBH or SG effective", "19-20 effective SG less one, else 0"
@@ -349,10 +425,10 @@ impl Channel {
 
     /// "8-15 cams in data order", "21 n<nx", "Cams and n<nx show 0 while their function is off"
     #[inline]
-    fn signal_bits<R: Reading>(&self, r: R, d: Option<i64>) -> u32 {
+    fn signal_bits<R: Reading>(&self, r: R, moment: Option<&Moment>) -> u32 {
         let cams_on = paper!(r, self.data.has(r, Function::Cams),
             CamFunctionIgnored => true,
-            UnusableCamsShow0 => self.data.has(r, Function::Cams) && d.is_some());
+            UnusableCamsShow0 => self.data.has(r, Function::Cams) && moment.is_some());
         let nx_on = paper!(r, self.data.has(r, Function::Nx),
             NxFunctionIgnored => true);
         let cams = if cams_on {
@@ -360,20 +436,20 @@ impl Channel {
         } else {
             0
         };
-        let below_nx = nx_on && self.below_nx(r, d);
+        let below_nx = nx_on && self.below_nx(r, moment);
         cams << paper!(r, 8, CamBitsMoved => 9)
             | u32::from(below_nx) << paper!(r, 21, NxBitMoved => 22)
     }
 
     /// "2 pulses cancelled (rank 5)", "24-26 rank, 27 held, 28 F"
     #[inline]
-    fn stop_bits<R: Reading>(&self, r: R, d: Option<i64>) -> u32 {
+    fn stop_bits<R: Reading>(&self, r: R, moment: Option<&Moment>) -> u32 {
         let rank = self.stop.rank;
         let cancelled = paper!(r, rank == Rank::A,
             Bit2AlsoB => rank >= Rank::B,
             Bit2Never => false);
         let held = paper!(r, self.stop.held.is_some(),
-            HeldBitAtRest => self.stop.held.is_some() && d == Some(0));
+            HeldBitAtRest => self.stop.held.is_some() && moment.is_some_and(|moment| moment.d == 0));
         let f = paper!(r, self.f.on,
             FBitUntil13 => self.f.on && self.f.count > 0);
         let (held_bit, f_bit) = paper!(r, (27, 28),

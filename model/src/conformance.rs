@@ -1,9 +1,10 @@
 //! The conformance kits: a folder of kits as text, the files made of them, and their power.
 //!
 //! Each kit is a file `NAME.txt`. A line `# 01 (SUPPLIER 7.2): "..."` quotes the sentence of
-//! document 01 that it tries, beside the section of `docs/SUPPLIER.md` in which its rule stands.
-//! A comment `#> 2 03000081 03000081 7` says a line of its listing, worked out by hand from
-//! document 01; a kit that lists otherwise is refused here, so that it cannot go unnoticed.
+//! document 01 that it tries, beside the section of `docs/SUPPLIER.md` in which its rule stands;
+//! `# 02 W1 (SUPPLIER 7.2): "..."` one of request W1 of document 02. A comment
+//! `#> 2 03000081 03000081 7` says a line of its listing, worked out by hand from these papers; a
+//! kit that lists otherwise is refused here, so that it cannot go unnoticed.
 
 use crate::kit::{self, Fault};
 use crate::{listing, Deviation};
@@ -43,16 +44,18 @@ impl Kit {
         format!("{}.kit", self.name)
     }
 
-    /// Whether its listing tells a program with this deviation from document 01.
+    /// Whether its listing tells a program with this deviation from the papers.
     pub fn tells(&self, deviation: Deviation) -> bool {
         listing::tells(&self.bytes, &self.listing, deviation)
     }
 }
 
-/// A sentence of document 01, or a part of one, and the section of `docs/SUPPLIER.md` in which
-/// its rule stands.
+/// A sentence of a paper, or a part of one, and the section of `docs/SUPPLIER.md` in which its
+/// rule stands.
 #[derive(Clone, Debug, PartialEq, Eq)]
 pub struct Quote {
+    /// `01`, or `02 W1` for request W1 of document 02.
+    pub paper: String,
     pub section: String,
     pub sentence: String,
 }
@@ -64,31 +67,36 @@ pub fn quotes(text: &str) -> Result<Vec<Quote>, Fault> {
     let quotes = lines.map(|(index, line)| {
         quote(line).ok_or(Fault {
             line: index + 1,
-            reason: "a quote is # 01 (SUPPLIER 7.2): \"...\", with its section".into(),
+            reason: "a quote is # 01 (SUPPLIER 7.2): \"...\", or # 02 W1 (SUPPLIER 7.2): \"...\", with its section".into(),
         })
     });
     match quotes.collect::<Result<Vec<Quote>, Fault>>()? {
         none if none.is_empty() => Err(Fault {
             line: 1,
-            reason: "no line # 01 (SUPPLIER 7.2): \"...\" quotes document 01".into(),
+            reason: "no line # 01 (SUPPLIER 7.2): \"...\" quotes document 01, and no line # 02 W1 (SUPPLIER 7.2): \"...\" a request".into(),
         }),
         quotes => Ok(quotes),
     }
 }
 
-/// Whether a line is there to quote document 01.
+/// Whether a line is there to quote document 01 or 02.
 pub fn is_quote(line: &str) -> bool {
-    let behind = line.strip_prefix("# 01");
+    let behind = ["# 01", "# 02"]
+        .iter()
+        .find_map(|paper| line.strip_prefix(paper));
     behind.is_some_and(|rest| rest.starts_with([' ', ':', ',']))
 }
 
-/// `# 01 (SUPPLIER 7.2): "..."`
+/// `# 01 (SUPPLIER 7.2): "..."`, `# 02 W1 (SUPPLIER 7.2): "..."`
 fn quote(line: &str) -> Option<Quote> {
-    let rest = line.strip_prefix("# 01 (SUPPLIER ")?;
+    let (paper, rest) = line.strip_prefix("# ")?.split_once(" (SUPPLIER ")?;
     let (section, sentence) = rest.split_once("): \"")?;
     let sentence = sentence.strip_suffix('"')?;
     let number = |part: &str| !part.is_empty() && part.bytes().all(|b| b.is_ascii_digit());
-    (section.split('.').all(number) && !sentence.is_empty()).then(|| Quote {
+    let request = paper.strip_prefix("02 W").is_some_and(number);
+    let known = paper == "01" || request;
+    (known && section.split('.').all(number) && !sentence.is_empty()).then(|| Quote {
+        paper: paper.into(),
         section: section.into(),
         sentence: sentence.into(),
     })

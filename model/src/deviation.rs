@@ -1,4 +1,4 @@
-//! Readings of document 01: the paper itself, and single deviations from it.
+//! Readings of document 01 and request W1: the papers themselves, and single deviations from them.
 //!
 //! A function of the model takes a reading. [`Paper`] never deviates and costs nothing;
 //! [`Deviant`] is wrong in one place, so that kits can be tried for whether they notice.
@@ -15,7 +15,10 @@
 //! - the device's look at bit 2, or at ranks above 5: a channel word has bit 2 just where its
 //!   rank is 5, and no rank above;
 //! - a log limit above 16,076 words, and the size of the output: the bench gives no such log;
-//! - the order of cause codes, and the codes themselves: the listing has none.
+//! - the order of cause codes, and the codes themselves: the listing has none;
+//! - limit × percent × T × denominator divided by the numerator before |d| × 6000 is compared with it, or |d| × numerator
+//!   × 60 divided by the denominator before nx or the shutdown speed is: as above, for a quotient rounded down;
+//! - the own head in a report in place of the other channel's: in a log it is that heads are not compared.
 
 /// How document 01 is read.
 pub trait Reading: Copy {
@@ -161,6 +164,14 @@ deviations! {
     OverrideLowNarrower: "an override must be at least 2 percent", "35-50 | override percent 0 to 15 | 1 to 100";
     OverrideHighWider: "an override may be 101 percent", "35-50 | override percent 0 to 15 | 1 to 100";
     OverrideHighNarrower: "an override must be at most 99 percent", "35-50 | override percent 0 to 15 | 1 to 100";
+    NumeratorLowWider: "a numerator may be 0", "W1: Data 51 to 58 are the numerators .., each 1 to 1000";
+    NumeratorLowNarrower: "a numerator must be at least 2", "W1: Data 51 to 58 are the numerators .., each 1 to 1000";
+    NumeratorHighWider: "a numerator may be 1,001", "W1: Data 51 to 58 are the numerators .., each 1 to 1000";
+    NumeratorHighNarrower: "a numerator must be at most 999", "W1: Data 51 to 58 are the numerators .., each 1 to 1000";
+    DenominatorLowWider: "a denominator may be 0", "W1: 59 to 66 the denominators, each 1 to 1000";
+    DenominatorLowNarrower: "a denominator must be at least 2", "W1: 59 to 66 the denominators, each 1 to 1000";
+    DenominatorHighWider: "a denominator may be 1,001", "W1: 59 to 66 the denominators, each 1 to 1000";
+    DenominatorHighNarrower: "a denominator must be at most 999", "W1: 59 to 66 the denominators, each 1 to 1000";
     FunctionsSeAndCamsSwapped: "function bit 1 is the cams and bit 2 is SE", "1 | functions; bit 0 SBH/SG, 1 SE, 2 cams, 3 n<nx, 4 external stops";
     FunctionsNxAndStopsSwapped: "function bit 3 is the external stops and bit 4 is n<nx", "1 | functions; bit 0 SBH/SG, 1 SE, 2 cams, 3 n<nx, 4 external stops";
 
@@ -188,7 +199,21 @@ deviations! {
     Binary64Through32: "a binary64 is rounded to a binary32 first", "A datum arrives as a 32-bit whole number, a binary32 or a binary64 (IEEE 754)";
 
     // The list and its refusals.
-    HeadValueIgnored: "a head of any value is taken", "Kind 1: list head, value 51.";
+    HeadValueIgnored: "a head of any other value is taken for one of 51", "Kind 1: list head, value 51.";
+    HeadInEightBits: "only the lowest 8 bits of a head's value are looked at", "the top 4 bits are the kind, unused bits 0";
+    HeadsBetweenTaken: "a head between 51 and 67 is taken, with as many data", "W1: the list head then says 67";
+    Head66Taken: "a head of 66 is taken, with as many data", "W1: the list head then says 67";
+    Head68Taken: "a head of 68 is taken for one of 67", "W1: the list head then says 67";
+    HeadsAboveTaken: "a head above 67 is taken for one of 67", "W1: the list head then says 67";
+    Head67Refused: "a head of 67 is refused", "W1: the list head then says 67";
+    Head67Of51Data: "a list headed 67 is read as one of 51 data", "W1: the list head then says 67";
+    DataBehindHeadTaken: "a list headed 51 takes data 51 to 66 where they follow", "W1: the list head then says 67";
+    ListMayEndAt51: "a list headed 67 may end behind datum 50", "W1: the list head then says 67";
+    LackedNumeratorsAre0: "in a list headed 51 the numerators are 0", "W1: A list headed 51 is read with every ratio 1 to 1";
+    LackedDenominatorsAre0: "in a list headed 51 the denominators are 0", "W1: A list headed 51 is read with every ratio 1 to 1";
+    OpenRatioIs1: "an open numerator or denominator is 1", "datum open | 2";
+    SeEndsBeforeRatios: "number 5 is told before data 51 to 66 are looked at", "per datum 1, 2, 3, 4; then 5";
+    UnlikeHeadsRefused: "a list B with another head than list A's is refused", "W1: cause 12 also stands where heads differ";
     DatumNumberIgnored: "a datum word of any number is taken", "A list is a head and the data in number order.";
     DatumBitsIgnored: "unused bits of a datum word are ignored", "the top 4 bits are the kind, unused bits 0";
     PieceKindIgnored: "a piece may be of any kind", "list word missing, of wrong kind, number or bits | 1";
@@ -249,12 +274,37 @@ deviations! {
     Bits5To11Ignored: "input bits 5 to 11 may be 1", "Every other bit must be 0.";
     Bits13To17Ignored: "input bits 13 to 17 may be 1", "Every other bit must be 0.";
     Bits22To27Ignored: "input bits 22 to 27 may be 1", "Every other bit must be 0.";
+    GearBitsUsableAt51: "with a list headed 51 input bits 8 to 10 may be 1, and the ratio stays 1 to 1", "W1: its logs keep their words, bits 8 to 10 being 0 as before";
+    GearBitsUnusableAt67: "input bits 8 to 10 must be 0 with a list headed 67 too", "W1: Input bits 8 to 10 pick one of eight ratios";
+    GearNeedsSbhSg: "input bits 8 to 10 may be 1 only with function 0 on", "W1: Input bits 8 to 10 pick one of eight ratios";
+    Bit7Free: "input bit 7 may be 1 with a list headed 67", "Every other bit must be 0.";
+    Bit11Free: "input bit 11 may be 1 with a list headed 67", "Every other bit must be 0.";
+    GearBitsReversed: "input bit 8 is the highest of the ratio's number", "W1: Input bits 8 to 10 pick one of eight ratios";
+    GearBitsOneLower: "input bits 7 to 9 pick the ratio", "W1: Input bits 8 to 10 pick one of eight ratios";
+    GearBitsOneHigher: "input bits 9 to 11 pick the ratio", "W1: Input bits 8 to 10 pick one of eight ratios";
+    GearFixed: "the first ratio always applies", "W1: Input bits 8 to 10 pick one of eight ratios";
+    GearFromOne: "number 0 is 1 to 1, and number 1 picks the first ratio", "W1: Input bits 8 to 10 pick one of eight ratios";
+    FourRatios: "input bits 8 and 9 pick one of four ratios, and bit 10 must be 0", "W1: Input bits 8 to 10 pick one of eight ratios";
+    Bit10Ignored: "input bits 8 and 9 pick one of four ratios, whatever bit 10 is", "W1: Input bits 8 to 10 pick one of eight ratios";
+    NumeratorOfFirst: "the numerator is always datum 51", "W1: Data 51 to 58 are the numerators and 59 to 66 the denominators";
+    DenominatorOfFirst: "the denominator is always datum 59", "W1: Data 51 to 58 are the numerators and 59 to 66 the denominators";
+    RatioInPairs: "data 51, 53, .. are the numerators and 52, 54, .. the denominators", "W1: Data 51 to 58 are the numerators and 59 to 66 the denominators";
+    RatioSwapped: "data 51 to 58 are the denominators and 59 to 66 the numerators", "W1: Data 51 to 58 are the numerators and 59 to 66 the denominators";
+    RatioOfReport: "the other channel's input bits pick the ratio", "W1: Input bits 8 to 10 pick one of eight ratios";
+    RatioOfCycleBefore: "the ratio is that of the cycle before", "W1: Input bits 8 to 10 pick one of eight ratios (those of the present cycle)";
+    RatioOfFirstCycle: "the ratio is that of the first usable cycle", "W1: Input bits 8 to 10 pick one of eight ratios (those of the present cycle)";
+    RatioTakenAtRest: "another ratio is taken only where d is 0", "W1: Input bits 8 to 10 pick one of eight ratios (those of the present cycle)";
+    RatioWaits: "SG takes another ratio together with its selection, after the delay", "W1: Input bits 8 to 10 pick one of eight ratios (those of the present cycle)";
     KRisesFirst: "k rises before the comparison", "k starts at 0, rises by one each cycle";
     KStaysUnusable: "k stays in an unusable cycle", "k starts at 0, rises by one each cycle";
     KStays: "k is always 0", "k starts at 0, rises by one each cycle";
     KOnlyTo49: "k follows 49 by 0", "and follows 50 by 0";
     KStopsAt50: "k stays at 50", "and follows 50 by 0";
-    KFromDatum1: "k follows 50 by 1", "and follows 50 by 0";
+    KFromDatum1: "k follows the last datum's number by 1", "and follows 50 by 0";
+    KOnlyTo50: "k follows 50 by 0 with a list headed 67 too", "W1: k runs over as many data as the list has";
+    KAlwaysTo66: "k follows 66 by 0 with a list headed 51 too", "W1: k runs over as many data as the list has";
+    KOnlyTo65: "k follows 65 by 0", "W1: k runs over as many data as the list has";
+    KStopsAt66: "k stays at 66", "W1: k runs over as many data as the list has";
 
     // Step 1.
     UnusableIsB: "an unusable cycle enters STOP B", "1. Unusable: cause 1, rank 5, not held.";
@@ -278,6 +328,7 @@ deviations! {
     UnusableNxShown: "n<nx shows 1 in an unusable cycle", "n<nx shows 0 in an unusable cycle";
 
     // Step 2.
+    StepOfScaledPositions: "d is the difference of two positions, each times its cycle's ratio", "W1: Positions aren't scaled.";
     FirstStepFromZero: "without a previous position d is the position", "2. d = position less previous position, 0 if there is none.";
 
     // Step 3.
@@ -315,7 +366,10 @@ deviations! {
     SbhReferenceForever: "the SBH reference is taken once and never again", "When SBH becomes effective and was not so before, its reference is the position";
     SbhReferenceIsReport: "the SBH reference is the other channel's position", "When SBH becomes effective and was not so before, its reference is the position";
 
+    OrderScaled: "SGs are ordered by limit × percent over the ratio of their cycle", "Order: nothing, SG by limit × percent, SBH strictest.";
+
     // Step 4.
+    StandstillScaled: "the distance from SBH's reference is scaled by the ratio", "W1: Positions aren't scaled.";
     SbhAtTolerance: "cause 2 stands at the tolerance itself", "2 SBH, distance from reference over datum 2, rank 4";
     SbhPlusSideOnly: "cause 2 looks at the plus side only", "2 SBH, distance from reference over datum 2, rank 4";
     SbhMinusSideOnly: "cause 2 looks at the minus side only", "2 SBH, distance from reference over datum 2, rank 4";
@@ -328,6 +382,10 @@ deviations! {
     SgMinusDirectionOnly: "cause 3 looks at the minus direction only", "3 SG, |d| × 6000 > limit × percent × T";
     SgWithoutT: "cause 3 takes T as 12", "3 SG, |d| × 6000 > limit × percent × T";
     SgOnePercentMore: "cause 3 takes the percent one more", "3 SG, |d| × 6000 > limit × percent × T";
+    SgUnscaled: "SG is compared without the ratio", "W1: Every speed comparison, for SG, nx and shutdown, takes the step times numerator over denominator, still without dividing.";
+    SgRatioDivides: "|d| × numerator is divided by the denominator before SG is compared with it", "W1: Every speed comparison, for SG, nx and shutdown, takes the step times numerator over denominator, still without dividing.";
+    SgRatioDividesLate: "|d| × 6000 × numerator is divided by the denominator before SG is compared with it", "W1: Every speed comparison, for SG, nx and shutdown, takes the step times numerator over denominator, still without dividing.";
+    RatioStepOf32Bits: "|d| × numerator is cut to 32 bits", "W1: Every speed comparison, for SG, nx and shutdown, takes the step times numerator over denominator, still without dividing.";
     SgBySelected: "cause 3 goes by the present selection", "4. Causes (2 and 3 by the effective selection)";
     SgNotWhileSbhWaits: "cause 3 is not watched while SBH is selected and waits", "4. Causes (2 and 3 by the effective selection)";
     SgRankOfSg1: "cause 3 has the stop of SG1 for every SG", "3 SG, .. rank by datum";
@@ -337,6 +395,7 @@ deviations! {
     SeAtPlus: "cause 4 stands at the plus end itself", "position below its minus or above its plus";
     SeMinusIgnored: "cause 4 looks at the plus end only", "position below its minus or above its plus";
     SePlusIgnored: "cause 4 looks at the minus end only", "position below its minus or above its plus";
+    SeScaled: "SE looks at the position times the ratio", "W1: Positions aren't scaled.";
     SeBitTurned: "bit 12 chooses SE1 by 1", "12 SE2 instead of SE1";
     SeAlways1: "bit 12 is ignored, SE1 is watched", "4 SE as chosen by bit 12";
     SeBothWatched: "both SE1 and SE2 are watched", "4 SE as chosen by bit 12";
@@ -355,22 +414,31 @@ deviations! {
     HoldPlusSideOnly: "cause 9 looks at the plus side only", "9 held, distance from the hold's reference over datum 2, rank 4";
     HoldMinusSideOnly: "cause 9 looks at the minus side only", "9 held, distance from the hold's reference over datum 2, rank 4";
     HoldByDatum26: "cause 9 takes the allowed position difference as tolerance", "9 held, distance from the hold's reference over datum 2, rank 4";
+    HoldScaled: "the distance from a hold's reference is scaled by the ratio", "W1: Positions aren't scaled.";
     HoldRankA: "cause 9 has rank 5", "9 held, distance from the hold's reference over datum 2, rank 4";
     HoldRankC: "cause 9 has rank 3", "9 held, distance from the hold's reference over datum 2, rank 4";
     DifferenceAtBound: "cause 10 stands at the allowed difference itself", "10 position differs from the report by more than datum 26";
     DifferenceOneSided: "cause 10 looks only at a position above the report", "10 position differs from the report by more than datum 26";
+    DifferenceScaled: "the difference from the report's position is scaled by the ratio", "W1: Positions aren't scaled.";
     DifferenceIgnored: "cause 10 never stands", "10 position differs from the report by more than datum 26";
     InputsAtBound: "cause 11 stands in the allowed number of cycles already", "11 input words differ in more than datum 28 usable cycles running";
     InputsOneLater: "cause 11 stands one cycle later", "11 input words differ in more than datum 28 usable cycles running";
     InputsInAll: "cause 11 counts differing cycles that are not running", "11 input words differ in more than datum 28 usable cycles running";
     InputsUsableForBoth: "cause 11 counts only cycles usable for both channels", "usable cycles running (usable for this channel)";
     InputsLowerHalf: "cause 11 compares the lower halves only", "that cycle's position and whole input word and its datum k";
+    GearNotCompared: "cause 11 leaves input bits 8 to 10 out", "that cycle's position and whole input word and its datum k";
+    GearComparedByRatio: "cause 11 takes two numbers of the same ratio as alike", "that cycle's position and whole input word and its datum k";
     InputsIgnored: "cause 11 never stands", "11 input words differ in more than datum 28 usable cycles running";
     DatumIgnored: "cause 12 never stands", "12 datum k differs";
     DatumOneOffAllowed: "cause 12 lets a difference of one pass", "12 datum k differs";
     DatumLowerHalf: "cause 12 compares the lower 16 bits only", "12 datum k differs";
     DatumWithoutSign: "cause 12 compares magnitudes", "12 datum k differs";
     DatumOfUnusableLeftOut: "cause 12 leaves out an unusable report", "12 datum k differs (the other's unusable report: compared as it is)";
+    HeadNotCompared: "cause 12 does not look at heads", "W1: The report carries the head too, and cause 12 also stands where heads differ.";
+    HeadAtK0Only: "heads are compared only where k is 0", "W1: The report carries the head too, and cause 12 also stands where heads differ.";
+    HeadOfLongerOnly: "only the channel with the longer list notes another head", "W1: The report carries the head too, and cause 12 also stands where heads differ.";
+    HeadOfShorterOnly: "only the channel with the shorter list notes another head", "W1: The report carries the head too, and cause 12 also stands where heads differ.";
+    HeadWithoutF: "cause 12 does not set F where heads alone differ", "W1: The report carries the head too, and cause 12 also stands where heads differ.";
     OtherUnusableLeftOut: "causes 10 and 11 leave out an unusable report", "10 position differs from the report (the other's unusable report: compared as it is)";
     FTimeSetAnew: "each of 10, 11, 12 sets the count from F to B anew", "10, 11, 12 set F and, if F is new, its count to datum 34";
     FTimeOneMore: "the time from F to B is one cycle longer", "its count to datum 34; the count falls in later usable cycles";
@@ -432,6 +500,9 @@ deviations! {
     ShutdownSigned: "the shutdown speed is compared with d, not |d|", "B also becomes A where |d| × 60 < datum 33 × T.";
     ShutdownWithoutT: "the shutdown speed takes T as 12", "B also becomes A where |d| × 60 < datum 33 × T.";
     ShutdownDivides: "datum 33 × T is divided by 60 before |d| is compared with it", "Not so: dividing before comparing a speed";
+    ShutdownUnscaled: "the shutdown speed is compared without the ratio", "W1: Every speed comparison, for SG, nx and shutdown, takes the step times numerator over denominator, still without dividing.";
+    ShutdownRatioDivides: "|d| × numerator is divided by the denominator before the shutdown speed is compared with it", "W1: Every speed comparison, for SG, nx and shutdown, takes the step times numerator over denominator, still without dividing.";
+    ShutdownRatioDividesBound: "datum 33 × T × denominator is divided by the numerator before |d| × 60 is compared with it", "W1: Every speed comparison, for SG, nx and shutdown, takes the step times numerator over denominator, still without dividing.";
 
     // Step 6.
     CamAtUpper: "a cam signal is 1 at edge + datum 24 already", "6. Cam signal 1 above edge + datum 24, 0 below edge, else as before; fresh 0.";
@@ -446,10 +517,14 @@ deviations! {
     CamsReversed: "the cams stand in reverse order", "8-15 cams in data order";
     CamLastIgnored: "SN4- always shows 0", "16-23 | cams SN1+, SN1-, SN2+ .. SN4-";
     CamFunctionIgnored: "cams show with their function off", "Cams and n<nx show 0 while their function is off";
+    CamsScaled: "the cams look at the position times the ratio", "W1: Positions aren't scaled.";
     NxAtBound: "n<nx shows 1 at nx itself", "n<nx: |d| × 60 < datum 25 × T.";
     NxSigned: "n<nx goes by d, not |d|", "n<nx: |d| × 60 < datum 25 × T.";
     NxWithoutT: "n<nx takes T as 12", "n<nx: |d| × 60 < datum 25 × T.";
     NxDivides: "datum 25 × T is divided by 60 before |d| is compared with it", "Not so: dividing before comparing a speed";
+    NxUnscaled: "n<nx is compared without the ratio", "W1: Every speed comparison, for SG, nx and shutdown, takes the step times numerator over denominator, still without dividing.";
+    NxRatioDivides: "|d| × numerator is divided by the denominator before nx is compared with it", "W1: Every speed comparison, for SG, nx and shutdown, takes the step times numerator over denominator, still without dividing.";
+    NxRatioDividesBound: "datum 25 × T × denominator is divided by the numerator before |d| × 60 is compared with it", "W1: Every speed comparison, for SG, nx and shutdown, takes the step times numerator over denominator, still without dividing.";
     NxNeedsPrevious: "n<nx shows 0 without a previous position", "2. d = position less previous position, 0 if there is none.";
     NxFunctionIgnored: "n<nx shows with its function off", "Cams and n<nx show 0 while their function is off";
 

@@ -1,9 +1,10 @@
-//! A reference bench model of the two-channel axis monitor of document 01.
+//! A reference bench model of the two-channel axis monitor of document 01, with request W1 of
+//! document 02, "Spindles with gear stages".
 //!
 //! The modules stand in document 01's order and use its words. Each function quotes the
-//! sentence that it stands for.
+//! sentence that it stands for; behind `W1:` stands one of the request.
 //!
-//! In an expression `paper!(r, right, Deviation => wrong, ..)` the first part is document 01.
+//! In an expression `paper!(r, right, Deviation => wrong, ..)` the first part is the papers'.
 //! The lines behind it are wrong programs that a good kit notices; a reader of the monitor
 //! may pass them over, and the compiler does so too: with [`Paper`] they fold away.
 
@@ -15,6 +16,8 @@ pub mod whole;
 pub mod machine_data;
 
 pub mod list;
+
+pub mod gear;
 
 pub mod stop;
 

@@ -1,7 +1,7 @@
 //! The list reader: "A list is a head and the data in number order."
 
 use crate::deviation::{paper, Paper, Reading};
-use crate::machine_data::{lowest, number, range_as, Function, MachineData, COUNT};
+use crate::machine_data::{lowest, number, range_as, Function, MachineData, COUNT, LACKED};
 use crate::{whole, words};
 
 /// A refusal: "Cause | Number | Returned".
@@ -37,13 +37,16 @@ pub fn read_as<R: Reading>(r: R, words: &[u32]) -> Result<(MachineData, usize), 
 
 /// "The first faulty datum gives the answer; per datum 1, 2, 3, 4; then 5, SE1 first."
 fn read_data<R: Reading>(r: R, words: &[u32]) -> Result<(MachineData, usize), Refusal> {
-    head(r, words)?;
-    paper!(r, (), StructureFirst => structure(words)?);
-    let mut data = [0; COUNT];
+    let head = head(r, words)?;
+    let head = paper!(r, head,
+        DataBehindHeadTaken => if goes_on(words) { COUNT } else { head },
+        ListMayEndAt51 => if goes_on(words) { head } else { 51 });
+    paper!(r, (), StructureFirst => { structure(words, head)?; });
+    let mut data = [LACKED; COUNT];
     let mut places = [0; COUNT];
     let mut place = 1;
     let mut later: Option<Refusal> = None;
-    for number in 0..COUNT {
+    for number in 0..head {
         place = paper!(r, place, RemarkInListPassedOver => behind_remarks(words, place));
         places[number] = place;
         let (value, behind) = match datum(r, words, number, place) {
@@ -62,24 +65,30 @@ fn read_data<R: Reading>(r: R, words: &[u32]) -> Result<(MachineData, usize), Re
         };
         data[number] = value;
         place = behind;
-        paper!(r, (), SeEndsAtOnce => {
-            if number == number::SE1_PLUS { ends_of(r, &data, &places, number::SE1_MINUS)? }
-            if number == number::SE2_PLUS { ends_of(r, &data, &places, number::SE2_MINUS)? }
-        });
+        paper!(r, (),
+            SeEndsAtOnce => {
+                if number == number::SE1_PLUS { ends_of(r, &data, &places, number::SE1_MINUS)? }
+                if number == number::SE2_PLUS { ends_of(r, &data, &places, number::SE2_MINUS)? }
+            },
+            SeEndsBeforeRatios => if number == 50 { se_ends(r, &data, &places)? });
     }
+    paper!(r, (),
+        LackedNumeratorsAre0 => data[head.min(59)..59].fill(0),
+        LackedDenominatorsAre0 => data[head.max(59)..].fill(0));
     if let Some(fault) = later {
         return Err(fault);
     }
     se_ends(r, &data, &places)?;
-    Ok((MachineData::looked_through(data), place))
+    Ok((MachineData::looked_through(data, head), place))
 }
 
-/// "Kind 1: list head, value 51."
-fn head<R: Reading>(r: R, words: &[u32]) -> Result<(), Refusal> {
-    match words.first() {
-        Some(&word) if words::is_head(r, word) => Ok(()),
-        _ => refuse(1, 0),
-    }
+/// "Kind 1: list head, value 51."; W1: "the list head then says 67": how many data follow.
+fn head<R: Reading>(r: R, words: &[u32]) -> Result<usize, Refusal> {
+    let head = words.first().and_then(|&word| words::head_of(r, word));
+    head.ok_or(Refusal {
+        number: 1,
+        place: 0,
+    })
 }
 
 /// "per datum 1, 2, 3, 4": one datum's value, and the place behind it.
@@ -187,6 +196,7 @@ fn resolve<R: Reading>(
         Arrived::Open => {
             return paper!(r, refuse(2, place),
             OpenIsLowest => Ok(lowest(number)),
+            OpenRatioIs1 => if number >= number::NUMERATOR { Ok(1) } else { refuse(2, place) },
             OpenPlaceBehind => refuse(2, place + 1))
         }
     };
@@ -234,7 +244,7 @@ pub(crate) fn se_ends<R: Reading>(
         Se1EndsNotChecked => ends_of(r, data, places, number::SE2_MINUS),
         Se2EndsNotChecked => ends_of(r, data, places, number::SE1_MINUS),
         SeEndsOnlyWithFunction => {
-            if MachineData::looked_through(*data).has(r, Function::Se) {
+            if MachineData::of(data).has(r, Function::Se) {
                 ends_of(r, data, places, number::SE1_MINUS)?;
                 ends_of(r, data, places, number::SE2_MINUS)?;
             }
@@ -265,13 +275,19 @@ fn refuse<T>(number: u32, place: usize) -> Result<T, Refusal> {
 
 // What follows is of deviations only.
 
-/// The structure of all data, values left aside.
-fn structure(words: &[u32]) -> Result<(), Refusal> {
+/// The structure of so many data, values left aside: the place behind them.
+fn structure(words: &[u32], head: usize) -> Result<usize, Refusal> {
     let mut place = 1;
-    for number in 0..COUNT {
+    for number in 0..head {
         place = pieces(Paper, words, number, place)?.1;
     }
-    Ok(())
+    Ok(place)
+}
+
+/// Whether datum 51 stands behind datum 50.
+fn goes_on(words: &[u32]) -> bool {
+    let behind = structure(words, 51);
+    behind.is_ok_and(|place| form(Paper, words, 51, place).is_ok())
 }
 
 /// Whether a float lies outside the datum's range, whole or not.

@@ -169,6 +169,9 @@ fn parts<R: Reading>(r: R, words: &[u32]) -> Result<(Channel, Channel, &[u32]), 
             part: Part::B,
         }
     })?;
+    paper!(r, (), UnlikeHeadsRefused => if data_a.head() != data_b.head() {
+        return Err(Refused { refusal: Refusal { number: 1, place: 0 }, part: Part::B });
+    });
     let data_b = paper!(r, data_b, ListBIsListA => data_a);
     let log = &behind_a[read_b..];
     Ok((

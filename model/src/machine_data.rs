@@ -1,10 +1,17 @@
-//! Machine data: "Each channel has its own list of 51 data, numbers 0 to 50."
+//! Machine data: "Each channel has its own list of 51 data, numbers 0 to 50."; W1: "Data 51 to 58
+//! are the numerators and 59 to 66 the denominators, each 1 to 1000; the list head then says 67."
 
 use crate::deviation::{paper, Deviation, Deviation::*, Reading};
 use crate::list::{self, Refusal};
 
-/// "51 data, numbers 0 to 50"
-pub const COUNT: usize = 51;
+/// The most data of a list.
+pub const COUNT: usize = 67;
+
+/// What a head may say: "51 data, numbers 0 to 50"; W1: "the list head then says 67"
+pub const HEADS: [usize; 2] = [51, 67];
+
+/// W1: "A list headed 51 is read with every ratio 1 to 1": what a datum is that a list lacks.
+pub const LACKED: i32 = 1;
 
 /// The numbers of the data.
 pub mod number {
@@ -54,6 +61,10 @@ pub mod number {
     pub const TIME_F: usize = 34;
     /// "35-50 | override percent 0 to 15"
     pub const OVERRIDE: usize = 35;
+    /// W1: "Data 51 to 58 are the numerators"
+    pub const NUMERATOR: usize = 51;
+    /// W1: "and 59 to 66 the denominators"
+    pub const DENOMINATOR: usize = 59;
 }
 
 /// "1 | functions; bit 0 SBH/SG, 1 SE, 2 cams, 3 n<nx, 4 external stops"
@@ -70,33 +81,48 @@ pub enum Function {
 #[derive(Clone, Copy, Debug, PartialEq, Eq)]
 pub struct MachineData {
     data: [i32; COUNT],
+    /// What its head says: so many of them are the list's.
+    head: usize,
 }
 
 impl MachineData {
-    /// The data, refused with number 4 or 5 and the datum's number as place.
-    pub fn new(data: [i32; COUNT]) -> Result<MachineData, Refusal> {
+    /// The data of a list, refused with number 1, 4 or 5 and the datum's number as place.
+    pub fn new(data: &[i32]) -> Result<MachineData, Refusal> {
+        let refuse = |number, place| Err(Refusal { number, place });
+        if !HEADS.contains(&data.len()) {
+            return refuse(1, 0);
+        }
         for (number, &value) in data.iter().enumerate() {
             let (low, high) = range(number);
             if value < low || value > high {
-                return Err(Refusal {
-                    number: 4,
-                    place: number,
-                });
+                return refuse(4, number);
             }
         }
-        list::se_ends(crate::Paper, &data, &std::array::from_fn(|number| number))?;
-        Ok(MachineData { data })
+        let read = MachineData::of(data);
+        list::se_ends(
+            crate::Paper,
+            &read.data,
+            &std::array::from_fn(|number| number),
+        )?;
+        Ok(read)
     }
 
-    /// Data that a reader has looked through already.
-    pub(crate) fn looked_through(data: [i32; COUNT]) -> MachineData {
-        MachineData { data }
+    /// The data of a list that was looked through.
+    pub(crate) fn of(data: &[i32]) -> MachineData {
+        let mut all = [LACKED; COUNT];
+        all[..data.len()].copy_from_slice(data);
+        MachineData::looked_through(all, data.len())
     }
 
-    /// "else lowest", with 12 and 14 at 100,000,000.
-    pub fn lowest() -> MachineData {
-        let data = std::array::from_fn(lowest);
-        MachineData { data }
+    /// Data that a reader has looked through already, with those that the list lacks.
+    pub(crate) fn looked_through(data: [i32; COUNT], head: usize) -> MachineData {
+        MachineData { data, head }
+    }
+
+    /// "else lowest", with 12 and 14 at 100,000,000: a list of so many data.
+    pub fn lowest(head: usize) -> MachineData {
+        let data: Vec<i32> = (0..head.min(COUNT)).map(lowest).collect();
+        MachineData::of(&data)
     }
 
     /// The datum of this number; 0 if there is none.
@@ -105,9 +131,15 @@ impl MachineData {
         self.data.get(number).copied().unwrap_or(0)
     }
 
-    /// The 51 data.
-    pub fn data(&self) -> &[i32; COUNT] {
-        &self.data
+    /// What its head says: how many data the list has.
+    #[inline]
+    pub fn head(&self) -> usize {
+        self.head
+    }
+
+    /// The data that the list has.
+    pub fn data(&self) -> &[i32] {
+        &self.data[..self.head.min(COUNT)]
     }
 
     /// "1 | functions; bit 0 SBH/SG, 1 SE, 2 cams, 3 n<nx, 4 external stops"
@@ -154,6 +186,8 @@ pub const fn range(number: usize) -> (i32, i32) {
         33 => (0, 1_000_000),
         34 => (0, 1_000),
         35..=50 => (1, 100),
+        51..=58 => (1, 1_000),
+        59..=66 => (1, 1_000),
         _ => (0, 0),
     }
 }
@@ -189,6 +223,8 @@ const fn one_off(number: usize) -> [Deviation; 4] {
         29..=32 => [TimeLowWider, TimeLowNarrower, TimeHighWider, TimeHighNarrower],
         33 => [ShutdownLowWider, ShutdownLowNarrower, ShutdownHighWider, ShutdownHighNarrower],
         34 => [FTimeLowWider, FTimeLowNarrower, FTimeHighWider, FTimeHighNarrower],
-        _ => [OverrideLowWider, OverrideLowNarrower, OverrideHighWider, OverrideHighNarrower],
+        35..=50 => [OverrideLowWider, OverrideLowNarrower, OverrideHighWider, OverrideHighNarrower],
+        51..=58 => [NumeratorLowWider, NumeratorLowNarrower, NumeratorHighWider, NumeratorHighNarrower],
+        _ => [DenominatorLowWider, DenominatorLowNarrower, DenominatorHighWider, DenominatorHighNarrower],
     }
 }

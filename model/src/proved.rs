@@ -25,7 +25,7 @@ pub mod archive {
             state: *const Image,
             position: i32,
             inputs: u32,
-            report: *mut [u32; 3],
+            report: *mut [u32; 4],
         );
         pub fn monitor_cycle(
             data: *const [i32; COUNT],
@@ -33,7 +33,7 @@ pub mod archive {
             position: i32,
             inputs: u32,
             acknowledged: u32,
-            report: *const [u32; 3],
+            report: *const [u32; 4],
             causes: *mut [u8; 13],
         ) -> u32;
         pub fn monitor_device_word(a: u32, b: u32) -> u32;
@@ -117,8 +117,8 @@ impl Channel {
 
     /// Its report of a cycle.
     #[inline]
-    pub fn report(&self, position: i32, inputs: u32) -> [u32; 3] {
-        let mut report = [u32::MAX; 3];
+    pub fn report(&self, position: i32, inputs: u32) -> [u32; 4] {
+        let mut report = [u32::MAX; 4];
         // SAFETY: all are lent for the call, and what is written to nobody else.
         unsafe {
             archive::monitor_report(&self.data, &self.state, position, inputs, &mut report);
@@ -133,7 +133,7 @@ impl Channel {
         position: i32,
         inputs: u32,
         acknowledged: u32,
-        report: &[u32; 3],
+        report: &[u32; 4],
     ) -> Cycle {
         let mut codes = [u8::MAX; 13];
         // SAFETY: all are lent for the call, and what is written to nobody else.
@@ -188,13 +188,14 @@ fn answer(number: u32, at: usize) -> Result<usize, Refusal> {
 }
 
 /// A report as it is lent.
-pub fn lent(report: Report) -> [u32; 3] {
+pub fn lent(report: Report) -> [u32; 4] {
     let Report {
         position,
         inputs,
         datum,
+        head,
     } = report;
-    [position as u32, inputs, datum as u32]
+    [position as u32, inputs, datum as u32, head as u32]
 }
 
 /// The length of a kit's text. It stands at the front of the buffer if there is room, else

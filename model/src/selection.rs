@@ -2,6 +2,7 @@
 
 use crate::channel::bit;
 use crate::deviation::{paper, Reading};
+use crate::gear::Ratio;
 use crate::machine_data::{number, Function, MachineData};
 
 /// What the safe inputs select.
@@ -114,10 +115,13 @@ pub struct Selections {
     pub count: i64,
     /// "its reference is the position, kept while SBH is effective"
     pub reference: i32,
-    /// Of deviations only: the selection that waits, and the position of its choice.
+    /// Of deviations only: the selection that waits, and the position of its choice; the present
+    /// ratio, and that of the effective selection.
     waiting: Selection,
     chosen_at: i32,
     referenced: bool,
+    pub ratio: Ratio,
+    pub bound_by: Ratio,
 }
 
 impl Selections {
@@ -130,6 +134,8 @@ impl Selections {
         waiting: Selection::Nothing,
         chosen_at: 0,
         referenced: false,
+        ratio: Ratio::ONE,
+        bound_by: Ratio::ONE,
     };
 
     /// "counts, runs, F, selections, references and cams stay"
@@ -167,6 +173,9 @@ impl Selections {
             self.count_down(r, data, selected, position);
         }
         self.take_reference(r, was_sbh, position);
+        paper!(r, (),
+            OrderScaled => if self.count == 0 { self.bound_by = self.ratio },
+            RatioWaits => if self.count == 0 { self.bound_by = self.ratio });
     }
 
     /// "The first usable selection becomes effective immediately, as does a later one that is no stricter."
@@ -176,7 +185,8 @@ impl Selections {
             FirstDelayed => false);
         self.any_yet = paper!(r, true,
             FirstIsNotNothing => self.any_yet || selected != Selection::Nothing);
-        let stricter = selected.stricter(r, data, self.effective);
+        let stricter = paper!(r, selected.stricter(r, data, self.effective),
+            OrderScaled => self.stricter_by_ratio(r, data, selected));
         paper!(r, first || !stricter,
             LooserDelayed => first || selected == self.effective,
             StricterAtOnce => true,
@@ -242,5 +252,14 @@ impl Selections {
             if starts || self.waiting != selected { self.chosen_at = position }
             self.waiting = selected
         })
+    }
+
+    /// Of deviations only: whether a selection is stricter by the present ratio than the effective one by its own.
+    fn stricter_by_ratio<R: Reading>(&self, r: R, data: &MachineData, selected: Selection) -> bool {
+        let by = |selection: Selection, ratio: Ratio| match selection {
+            Selection::Sg { .. } => ratio.of_bound(selection.leeway(r, data)),
+            _ => selection.leeway(r, data),
+        };
+        by(selected, self.ratio) < by(self.effective, self.bound_by)
     }
 }

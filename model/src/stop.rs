@@ -1,6 +1,7 @@
 //! Stop ranks, and step 5 of a cycle: the stop that is entered, held or cancelled.
 
 use crate::deviation::{paper, Reading};
+use crate::gear::Ratio;
 use crate::machine_data::{number, MachineData};
 
 /// "Stop ranks: 0 none, 1 E, 2 D, 3 C, 4 B, 5 A."
@@ -98,6 +99,7 @@ impl Stop {
         strongest: Rank,
         position: i32,
         d: i64,
+        ratio: Ratio,
     ) {
         let enters = self.enters(r, strongest);
         if enters {
@@ -106,7 +108,7 @@ impl Stop {
             self.fall(r, strongest);
         }
         self.time_is_over(r, position, enters);
-        self.shutdown_speed(r, data, d, enters);
+        self.shutdown_speed(r, data, d, ratio, enters);
     }
 
     /// "the strongest cause, if above the rank, is entered"
@@ -193,17 +195,28 @@ impl Stop {
             ENotHeld => if self.rank == Rank::E { None } else { self.held.or(Some(position)) });
     }
 
-    /// "B also becomes A where |d| × 60 < datum 33 × T."
+    /// "B also becomes A where |d| × 60 < datum 33 × T."; W1: the step "times numerator over denominator"
     #[inline]
-    fn shutdown_speed<R: Reading>(&mut self, r: R, data: &MachineData, d: i64, entered: bool) {
+    fn shutdown_speed<R: Reading>(
+        &mut self,
+        r: R,
+        data: &MachineData,
+        d: i64,
+        ratio: Ratio,
+        entered: bool,
+    ) {
         let speed = data.get(number::SHUTDOWN);
-        let below = paper!(r, d.abs() * 60 < data.times_t(speed),
-            ShutdownAtBound => d.abs() * 60 <= data.times_t(speed),
+        let (step, bound) = (ratio.step(r, d), ratio.bound(data.times_t(speed)));
+        let below = paper!(r, step.abs() * 60 < bound,
+            ShutdownAtBound => step.abs() * 60 <= bound,
             ShutdownIgnored => false,
-            ShutdownNotOnEntry => !entered && d.abs() * 60 < data.times_t(speed),
-            ShutdownSigned => d * 60 < data.times_t(speed),
-            ShutdownWithoutT => d.abs() * 60 < i64::from(speed) * 12,
-            ShutdownDivides => d.abs() < data.times_t(speed) / 60);
+            ShutdownNotOnEntry => !entered && step.abs() * 60 < bound,
+            ShutdownSigned => step * 60 < bound,
+            ShutdownWithoutT => step.abs() * 60 < ratio.bound(i64::from(speed) * 12),
+            ShutdownDivides => step.abs() < bound / 60,
+            ShutdownUnscaled => d.abs() * 60 < data.times_t(speed),
+            ShutdownRatioDivides => ratio.of_number(d.abs()) * 60 < data.times_t(speed),
+            ShutdownRatioDividesBound => d.abs() * 60 < ratio.of_bound(data.times_t(speed)));
         let falls_to_a = paper!(r, self.rank == Rank::B && self.held.is_none(),
             ShutdownAlsoC => self.rank == Rank::B || self.rank == Rank::C);
         if below && falls_to_a {

@@ -1,8 +1,9 @@
 //! Words: lists and logs are 32-bit words.
 
 use crate::deviation::{paper, Reading};
+use crate::machine_data::HEADS;
 
-/// "Kind 1: list head, value 51."
+/// "Kind 1: list head, value 51."; W1: "the list head then says 67"
 pub const HEAD: u32 = 1;
 /// "Kind 2: datum, number in bits 16-23, form in bits 0-1."
 pub const DATUM: u32 = 2;
@@ -37,10 +38,23 @@ fn value(word: u32, of_kind: u32, used: u32) -> Option<u32> {
     (word & !used == of_kind << 28).then_some(word & used)
 }
 
-/// "Kind 1: list head, value 51."
-pub fn is_head<R: Reading>(r: R, word: u32) -> bool {
-    paper!(r, word == head(),
-        HeadValueIgnored => kind(word) == HEAD)
+/// "Kind 1: list head, value 51."; W1: "the list head then says 67": how many data a right head says.
+pub fn head_of<R: Reading>(r: R, word: u32) -> Option<usize> {
+    let says = HEADS.into_iter().find(|&count| word == head(count));
+    // Of deviations only.
+    let as_well = |taken: fn(usize) -> Option<usize>| match kind(word) {
+        HEAD => says.or(taken((word & 0x0fff_ffff) as usize)),
+        _ => None,
+    };
+    paper!(r, says,
+        HeadValueIgnored => as_well(|_| Some(51)),
+        HeadsBetweenTaken => as_well(|says| (52..67).contains(&says).then_some(says)),
+        Head66Taken => as_well(|says| (says == 66).then_some(66)),
+        Head68Taken => as_well(|says| (says == 68).then_some(67)),
+        HeadsAboveTaken => as_well(|says| (says > 67).then_some(67)),
+        HeadInEightBits => as_well(|says| HEADS.into_iter().find(|&count| says & 0xff == count)),
+        Head67Refused => says.filter(|&says| says == 51),
+        Head67Of51Data => says.map(|_| 51))
 }
 
 /// "Kind 2: datum, number in bits 16-23, form in bits 0-1.": the form of the datum's word.
@@ -98,9 +112,9 @@ pub fn is_remark<R: Reading>(r: R, word: u32) -> bool {
         RemarkBitsMustBeZero => word == REMARK << 28)
 }
 
-/// "Kind 1: list head, value 51."
-pub const fn head() -> u32 {
-    HEAD << 28 | 51
+/// "Kind 1: list head, value 51.", or what else it says.
+pub const fn head(says: usize) -> u32 {
+    HEAD << 28 | says as u32
 }
 
 /// "Kind 2: datum, number in bits 16-23, form in bits 0-1."

@@ -1,7 +1,7 @@
 //! No input makes the model panic, by any reading; overflow checks are on.
 
 mod common;
-use common::{data, Xorshift};
+use common::{data, data_of, Xorshift};
 use model::channel::Report;
 use model::{device, kit, list, listing, log, random, Channel, Deviant, Deviation, MachineData};
 
@@ -75,13 +75,16 @@ fn odd_number(random: &mut Xorshift) -> i32 {
 #[test]
 fn a_cycle_takes_any_numbers() {
     let mut random = Xorshift(7);
-    let highest = list::read(&words("lists A and B, else highest"))
-        .expect("a list")
-        .0;
+    let highest = |of: &str| {
+        let read = list::read(&words(&format!("lists A and B{of}, else highest")));
+        read.expect("a list").0
+    };
     for data in [
-        MachineData::lowest(),
-        highest,
+        MachineData::lowest(51),
+        highest(""),
+        highest(" of 67 data"),
         data(&[(0, 25), (1, 31), (27, 3), (28, 2)]),
+        data_of(67, &[(1, 31), (51, 1000), (59, 7), (53, 3), (61, 1000)]),
     ] {
         for deviation in [None]
             .into_iter()
@@ -93,9 +96,10 @@ fn a_cycle_takes_any_numbers() {
                     position: odd_number(&mut random),
                     inputs: odd_number(&mut random) as u32,
                     datum: odd_number(&mut random),
+                    head: odd_number(&mut random) as u32 as usize,
                 };
                 let position = odd_number(&mut random);
-                let inputs = odd_number(&mut random) as u32 & random.next() as u32 & 0xf03c_101f;
+                let inputs = odd_number(&mut random) as u32 & random.next() as u32 & 0xf03c_171f;
                 let acknowledged = random.below(2) == 0;
                 let cycle = match deviation {
                     None => channel.cycle(position, inputs, acknowledged, report),
@@ -130,7 +134,7 @@ fn words(text: &str) -> Vec<u32> {
 #[test]
 fn lists_and_logs_take_any_words() {
     let mut random = Xorshift(5);
-    let fresh = Channel::fresh(MachineData::lowest());
+    let fresh = Channel::fresh(MachineData::lowest(51));
     for _ in 0..50_000 {
         let mut words: Vec<u32> = (0..random.below(40))
             .map(|_| random.next() as u32)

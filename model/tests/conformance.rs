@@ -24,7 +24,7 @@ fn what_is_committed_is_what_the_kits_make() {
 }
 
 #[test]
-fn each_kit_begins_with_a_quote_of_document_01() {
+fn each_kit_begins_with_a_quote() {
     for kit in kits() {
         let text = beside("kits").join(&kit.name).with_extension("txt");
         let text = fs::read_to_string(text).expect(&kit.name);
@@ -92,13 +92,14 @@ fn a_kit_must_quote_and_list_as_it_says() {
 
 #[test]
 fn a_quote_has_its_section() {
-    let text = "# 01 (SUPPLIER 7.2): \"A \"b\".\"\n# 01.\n# 010\nlist A\n# 01 (SUPPLIER 11): \"c\"";
+    let text =
+        "# 01 (SUPPLIER 7.2): \"A \"b\".\"\n# 01.\n# 010\nlist A\n# 02 W1 (SUPPLIER 11): \"c\"";
     let quotes = conformance::quotes(text).expect(text);
-    let told: Vec<(&str, &str)> = quotes
+    let told: Vec<[&str; 3]> = quotes
         .iter()
-        .map(|quote| (quote.section.as_str(), quote.sentence.as_str()))
+        .map(|quote| [&*quote.paper, &*quote.section, &*quote.sentence])
         .collect();
-    assert_eq!(told, [("7.2", "A \"b\"."), ("11", "c")]);
+    assert_eq!(told, [["01", "7.2", "A \"b\"."], ["02 W1", "11", "c"]]);
     for wrong in [
         "# 01: \"T\"",
         "# 01, 3: \"T\"",
@@ -108,6 +109,11 @@ fn a_quote_has_its_section() {
         "# 01 (SUPPLIER x): \"T\"",
         "# 01 (SUPPLIER 3): T",
         "# 01 (SUPPLIER 3): \"\"",
+        "# 01 W1 (SUPPLIER 3): \"T\"",
+        "# 02 (SUPPLIER 3): \"T\"",
+        "# 02 W (SUPPLIER 3): \"T\"",
+        "# 02 W1: \"T\"",
+        "# 02 W1 (SUPPLIER): \"T\"",
     ] {
         let text = format!("# 01 (SUPPLIER 3): \"T\"\n{wrong}\nlists A and B\n");
         let fault = Kit::of("kit", &text).expect_err(wrong);

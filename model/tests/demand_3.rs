@@ -44,7 +44,7 @@ fn cycle(
     let before = *channel;
     let cycle = channel.cycle(position, inputs, acknowledged, report);
     let strongest = cycle.causes.strongest();
-    let usable = usable(Paper, position, inputs);
+    let usable = usable(Paper, before.data(), position, inputs);
     Seen {
         usable,
         clears: acknowledged && !cycle.causes.any_fresh(),
@@ -124,12 +124,14 @@ fn calls(seed: u64) -> Option<(Channel, Vec<Seen>)> {
         let previous = working.previous().unwrap_or(0);
         for _ in 0..random.below(20) {
             let position = previous + random.below(40) as i32 - 20;
-            let inputs = [2, 0, 0x003c_0002, 0x103c_000a, 1, 4][random.below(6) as usize];
+            let inputs = [2, 0, 0x003c_0002, 0x103c_000a, 1, 4, 0x102, 0x50a];
+            let inputs = inputs[random.below(8) as usize];
             let report = match random.below(3) {
                 0 => Report {
                     position: random.next() as i32,
                     inputs: random.next() as u32,
                     datum: 0,
+                    head: [51, 67, 0][random.below(3) as usize],
                 },
                 _ => working.report(position, inputs),
             };

@@ -4,8 +4,8 @@ use model::{listing, machine_data, words};
 
 /// A list with these data in form 0, else lowest.
 fn list(data: &[(usize, i32)]) -> Vec<u32> {
-    let mut list = vec![words::head()];
-    for number in 0..machine_data::COUNT {
+    let mut list = vec![words::head(51)];
+    for number in 0..51 {
         let stated = data.iter().find(|datum| datum.0 == number);
         let value = stated.map_or(machine_data::lowest(number), |datum| datum.1) as u32;
         list.extend([

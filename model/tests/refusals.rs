@@ -367,7 +367,7 @@ fn a_list_hands_on_the_words_behind_it() {
     let (a, behind) = reader::read(&words).expect("list A");
     assert_eq!((a.get(0), a.get(1), behind), (12, 31, 156));
     let (b, behind_b) = reader::read(&words[behind..]).expect("list B");
-    assert_eq!((b, behind_b), (MachineData::lowest(), 154));
+    assert_eq!((b, behind_b), (MachineData::lowest(51), 154));
     assert_eq!(words.len(), 156 + 154 + 7);
 }
 

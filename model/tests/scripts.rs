@@ -87,7 +87,8 @@ fn set(channel: &mut Lent, word: usize, value: u32) {
 
 /// A new channel with the same data.
 fn renew(channel: &mut Lent) {
-    let new = Lent::fresh(MachineData::lowest());
+    let head = channel.channel().data().head();
+    let new = Lent::fresh(MachineData::lowest(head));
     *channel = Lent::of(*channel.data(), *new.state());
 }
 
@@ -110,7 +111,7 @@ impl<const N: u32> Board for Wrong<N> {
         answer
     }
 
-    fn report(channel: &Lent, position: i32, inputs: u32) -> [u32; 3] {
+    fn report(channel: &Lent, position: i32, inputs: u32) -> [u32; 4] {
         let mut report = Model::report(channel, position, inputs);
         match N {
             // Datum 0, the inputs that are used, a position of 28 bits.
@@ -127,7 +128,7 @@ impl<const N: u32> Board for Wrong<N> {
         position: i32,
         inputs: u32,
         acknowledged: u32,
-        report: &[u32; 3],
+        report: &[u32; 4],
     ) -> Cycle {
         let before = channel.clone();
         let (old, mut report) = (*before.state(), *report);

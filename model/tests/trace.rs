@@ -1,4 +1,5 @@
-//! The tracing of document 01: each sentence with its definition, its theorem or contract, its kits and its wrong programs.
+//! The tracing of document 01 and of the requests: each sentence with its definition, its theorem or contract, its kits and
+//! its wrong programs.
 
 mod common;
 use common::beside;
@@ -10,6 +11,9 @@ use std::path::{Path, PathBuf};
 const HEAD: &str =
     "| Id | Document 01 | Definition | Theorem or contract | Kits | Wrong programs |";
 
+/// The papers of which a table may hold the sentences: its head's second cell, and a quote's name for it.
+const PAPERS: [(&str, &str); 2] = [("Document 01", "01"), ("Request W1", "02 W1")];
+
 const SECTIONS: &str = "| Section | Sentences |";
 
 /// What stands before a script's name.
@@ -17,6 +21,8 @@ const SCRIPT: &str = "script:";
 
 /// A row of a table: an id and what is cited for its sentence.
 struct Row {
+    /// The paper, as a quote names it.
+    paper: &'static str,
     id: String,
     sentence: String,
     definitions: String,
@@ -42,7 +48,7 @@ struct Repository {
     definitions: BTreeSet<String>,
     theorems: BTreeSet<String>,
     edits: BTreeSet<String>,
-    /// Each kit, and each script as `script:NAME`, with its quotes of document 01.
+    /// Each kit, and each script as `script:NAME`, with its quotes.
     kits: BTreeMap<String, Vec<Quote>>,
     /// The sections of the supplier's paper.
     sections: BTreeSet<String>,
@@ -61,9 +67,16 @@ fn cells(line: &str) -> Vec<String> {
         .collect()
 }
 
-fn row(line: &str) -> Result<Row, String> {
+/// The paper whose sentences a table with this head holds.
+fn paper(head: &str) -> Option<&'static str> {
+    let of = |(cell, _): &&(&str, &str)| head == HEAD.replace("Document 01", cell);
+    PAPERS.iter().find(of).map(|(_, paper)| *paper)
+}
+
+fn row(paper: &'static str, line: &str) -> Result<Row, String> {
     match <[String; 6]>::try_from(cells(line)) {
         Ok([id, sentence, definitions, theorems, kits, edits]) => Ok(Row {
+            paper,
             id,
             sentence,
             definitions,
@@ -86,13 +99,13 @@ fn page(text: &str) -> Page {
     let mut page = Page::default();
     let mut table = "";
     for line in text.lines() {
-        if [HEAD, SECTIONS].contains(&line) {
+        if line == SECTIONS || paper(line).is_some() {
             table = line;
         } else if !line.starts_with('|') {
             table = "";
             page.notes.extend(note(line).map(String::from));
-        } else if table == HEAD && !line.starts_with("|--") {
-            match row(line) {
+        } else if let Some(paper) = paper(table).filter(|_| !line.starts_with("|--")) {
+            match row(paper, line) {
                 Ok(row) => page.rows.push(row),
                 Err(fault) => page.faults.push(fault),
             }
@@ -411,8 +424,14 @@ fn of_kit(
     if quotes.is_empty() {
         return vec![format!("{kit}: no quotes, or not each with its section")];
     }
-    let fault = |Quote { section, sentence }: &Quote| {
-        let rows = citing.iter().filter(|row| stands(sentence, &row.sentence));
+    let fault = |quote: &Quote| {
+        let Quote {
+            paper,
+            section,
+            sentence,
+        } = quote;
+        let rows = citing.iter().filter(|row| row.paper == paper);
+        let rows = rows.filter(|row| stands(sentence, &row.sentence));
         let ids: Vec<&str> = rows.map(|row| row.id.as_str()).collect();
         if ids.is_empty() {
             return Some(format!("no row that cites it has \"{sentence}\""));
@@ -497,8 +516,12 @@ fn every_public_function_ensures_something() {
 fn small() -> Repository {
     let set = |names: &[&str]| names.iter().map(|name| name.to_string()).collect();
     let kit = |name: &str, section: &str, sentence: &str| {
-        let (section, sentence) = (section.into(), sentence.into());
-        (name.to_string(), vec![Quote { section, sentence }])
+        let quote = Quote {
+            paper: "01".into(),
+            section: section.into(),
+            sentence: sentence.into(),
+        };
+        (name.to_string(), vec![quote])
     };
     Repository {
         definitions: set(&["c/Def"]),
@@ -592,6 +615,29 @@ fn each_fault_of_a_kit_or_an_edit_is_found() {
     let page = page(&format!("{HEAD}\n{GOOD}"));
     let told = "kit k-3: no quotes, or not each with its section";
     assert_eq!(faults(&page, &there), [told]);
+}
+
+/// A quote of one paper does not stand in a row of another.
+#[test]
+fn a_quote_stands_in_a_row_of_its_paper() {
+    let head = HEAD.replace("Document 01", "Request W1");
+    let told = "kit k-1: no row that cites it has \"first part\"";
+    let mut there = small();
+    for (head, paper, fault) in [
+        (HEAD, "01", ""),
+        (&*head, "02 W1", ""),
+        (&*head, "01", told),
+        (HEAD, "02 W1", told),
+    ] {
+        // The first row stands below the head that is tried, all else below the other.
+        let (first, rest) = GOOD.split_once('\n').expect("rows");
+        let text = format!("{head}\n{first}\n\n{HEAD}\n{rest}");
+        for quote in there.kits.get_mut("k-1").expect("k-1") {
+            quote.paper = paper.into();
+        }
+        assert_eq!(faults(&page(&text), &there).join("; "), fault, "{paper}");
+    }
+    assert_eq!(paper("| Id | Request W2 | Definition |"), None);
 }
 
 #[test]

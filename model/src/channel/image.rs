@@ -2,7 +2,8 @@
 //!
 //! Every content of the two arrays stands for some channel. Where it is none that a list and its
 //! cycles lead to, data are read at the nearer end of their range, but cams as they stand; they
-//! are reported and compared by cause 12 as they stand, and k follows the count of the list.
+//! are reported and compared by cause 12 as they stand, and k follows the count of the list. The
+//! places behind a shorter list's data hold 0, so that its ratios are read as 1 to 1.
 
 use super::{Channel, Cycle, Report};
 use crate::causes::{Run, F};
@@ -77,8 +78,8 @@ impl Lent {
     pub fn fresh(data: MachineData) -> Lent {
         let channel = Channel::fresh(data);
         Lent {
-            data: *data.data(),
-            state: image(&channel, COUNT as u32),
+            data: std::array::from_fn(|number| data.data().get(number).copied().unwrap_or(0)),
+            state: image(&channel, data.head() as u32),
             channel,
         }
     }
@@ -138,7 +139,7 @@ impl Lent {
         let report = Report { datum, ..report };
         let cycle = self.channel.cycle(position, inputs, acknowledged, report);
         let count = self.state[word::COUNT];
-        if self.channel.k >= count as usize {
+        if self.channel.k >= COUNT {
             self.channel.k = 0;
         }
         let cams = self.state[word::CAMS];
@@ -257,7 +258,8 @@ fn channel_of(data: &[i32; COUNT], state: &Image) -> Channel {
         let (low, high) = range(number);
         data[number].clamp(low, high)
     };
-    let data = MachineData::looked_through(std::array::from_fn(within));
+    let head = state[word::COUNT] as usize;
+    let data = MachineData::looked_through(std::array::from_fn(within), head);
     let mut channel = Channel::fresh(data);
     channel.k = state[word::K] as usize;
     if state[word::HAS_PREVIOUS] != 0 {

@@ -1,7 +1,7 @@
 //! From the text form to a kit's bytes.
 
 use super::input_words::InputWord;
-use super::{lowest, Datum, Else};
+use super::{Datum, Else, Stated};
 use crate::machine_data::{range, COUNT};
 use crate::words;
 use std::fmt;
@@ -39,9 +39,6 @@ pub fn assemble(text: &str) -> Result<Vec<u8>, Fault> {
     Assembly::new(None).of(text).map(|assembly| assembly.kit)
 }
 
-/// The data that a list states.
-pub type Stated = [Datum; COUNT];
-
 /// A list's bytes from its text, which may say `else as A` of the data of a list before; and its data.
 pub(crate) fn list(text: &str, before: Option<&Stated>) -> Result<(Vec<u8>, Stated), Fault> {
     let assembly = Assembly::new(before).of(text)?;
@@ -57,7 +54,7 @@ struct Assembly {
     /// The list that is open.
     list: Option<List>,
     /// The data of the list before.
-    before: [Datum; COUNT],
+    before: Stated,
     /// How many lists were begun.
     lists: usize,
 }
@@ -68,7 +65,7 @@ struct List {
     /// The datum that comes next.
     next: usize,
     otherwise: Else,
-    data: [Datum; COUNT],
+    data: Stated,
     /// How many times the list stands in the kit.
     copies: usize,
 }
@@ -79,7 +76,7 @@ impl Assembly {
         Assembly {
             kit: Vec::new(),
             list: None,
-            before: before.copied().unwrap_or_else(lowest),
+            before: before.copied().unwrap_or_default(),
             lists: before.iter().count(),
         }
     }
@@ -162,26 +159,29 @@ impl Assembly {
             bytes: Vec::new(),
             next: 0,
             otherwise: Else::Lowest,
-            data: lowest(),
+            data: Stated::default(),
             copies,
         };
-        let mut head = Some(words::head());
+        let (mut count, mut head) = (None, Some(None));
         while let Some(token) = tokens.next() {
             match token {
+                "of" => count = Some(count_of_data(tokens)?),
                 "else" => list.otherwise = self.otherwise(tokens)?,
-                "head" => head = Some(word(next(tokens, "the head word")?)?),
+                "head" => head = Some(Some(word(next(tokens, "the head word")?)?)),
                 "no" => {
                     expect(tokens, "head")?;
                     head = None;
                 }
                 _ => {
                     return Err(format!(
-                        "'{token}' is not known here: else, head or no head"
+                        "'{token}' is not known here: of, else, head or no head"
                     ))
                 }
             }
         }
+        list.data.count = count.unwrap_or(list.otherwise.count(&self.before));
         if let Some(head) = head {
+            let head = head.unwrap_or(words::head(list.data.count));
             list.bytes.extend(head.to_be_bytes());
         }
         self.lists += copies;
@@ -206,7 +206,7 @@ impl Assembly {
     /// Writes the rest of an open list.
     fn close(&mut self) {
         if let Some(mut list) = self.list.take() {
-            list.write_to(COUNT, &self.before);
+            list.write_to(list.data.count, &self.before);
             for _ in 0..list.copies {
                 self.kit.extend_from_slice(&list.bytes);
             }
@@ -214,7 +214,7 @@ impl Assembly {
         }
     }
 
-    fn open_list(&mut self) -> Result<(&mut List, &[Datum; COUNT]), String> {
+    fn open_list(&mut self) -> Result<(&mut List, &Stated), String> {
         match &mut self.list {
             Some(list) => Ok((list, &self.before)),
             None => Err("no list is open".into()),
@@ -223,10 +223,10 @@ impl Assembly {
 
     /// `3 = 2000`, `35..50 = binary32 100`
     fn data(&mut self, first: &str, tokens: &mut Tokens) -> Result<(), String> {
-        let (from, to) = numbers(first)?;
+        let (list, before) = self.open_list()?;
+        let (from, to) = numbers(first, list.data.count)?;
         expect(tokens, "=")?;
         let given: Vec<&str> = tokens.collect();
-        let (list, before) = self.open_list()?;
         list.go_to(from, before)?;
         for number in from..=to {
             let mut tokens = given.clone().into_iter().peekable();
@@ -241,8 +241,8 @@ impl Assembly {
 
     /// `skip 7`, `skip 7..9`
     fn skip(&mut self, tokens: &mut Tokens) -> Result<(), String> {
-        let (from, to) = numbers(next(tokens, "a datum's number")?)?;
         let (list, before) = self.open_list()?;
+        let (from, to) = numbers(next(tokens, "a datum's number")?, list.data.count)?;
         list.go_to(from, before)?;
         list.next = to + 1;
         Ok(())
@@ -251,7 +251,8 @@ impl Assembly {
     /// `cut`, `cut 2 words`, `cut 1 byte`
     fn cut(&mut self, tokens: &mut Tokens) -> Result<(), String> {
         let Some(number) = tokens.next() else {
-            self.open_list()?.0.next = COUNT;
+            let list = self.open_list()?.0;
+            list.next = list.data.count;
             self.close();
             return Ok(());
         };
@@ -307,13 +308,13 @@ impl Assembly {
 
 impl List {
     /// Writes the data before this one.
-    fn write_to(&mut self, number: usize, before: &[Datum; COUNT]) {
+    fn write_to(&mut self, number: usize, before: &Stated) {
         for number in self.next..number {
             self.write(number, self.otherwise.datum(number, before));
         }
     }
 
-    fn go_to(&mut self, number: usize, before: &[Datum; COUNT]) -> Result<(), String> {
+    fn go_to(&mut self, number: usize, before: &Stated) -> Result<(), String> {
         if number < self.next {
             return Err(format!(
                 "datum {number} comes after datum {}",
@@ -328,7 +329,7 @@ impl List {
         for word in datum.words(number) {
             self.bytes.extend(word.to_be_bytes());
         }
-        self.data[number] = datum;
+        self.data.data[number] = datum;
         self.next = number + 1;
     }
 }
@@ -428,10 +429,18 @@ fn single_word(first: &str, tokens: &mut Tokens) -> Result<u32, String> {
     }
 }
 
-/// `12`, `35..50`: the numbers of data.
-fn numbers(token: &str) -> Result<(usize, usize), String> {
+/// `of 67 data`
+fn count_of_data(tokens: &mut Tokens) -> Result<usize, String> {
+    let what = "a number of data";
+    let count = integer(next(tokens, what)?, 1, COUNT as i64, what)?;
+    expect(tokens, "data")?;
+    Ok(count as usize)
+}
+
+/// `12`, `35..50`: the numbers of data of a list of so many.
+fn numbers(token: &str, count: usize) -> Result<(usize, usize), String> {
     let one = |token| {
-        integer(token, 0, COUNT as i64 - 1, "a datum's number").map(|number| number as usize)
+        integer(token, 0, count as i64 - 1, "a datum's number").map(|number| number as usize)
     };
     let (from, to) = match token.split_once("..") {
         Some((from, to)) => (one(from)?, one(to)?),

@@ -1,6 +1,7 @@
 //! Input words in readable form.
 
 use crate::channel::{bit, INPUT_BITS};
+use crate::gear::GEAR_BITS;
 
 /// The external stops, with their letters and input bits.
 const STOPS: [(&str, u32); 4] = [
@@ -21,6 +22,7 @@ pub struct InputWord {
     selection: bool,
     se: bool,
     override_given: bool,
+    gear_given: bool,
     no_stop: bool,
     stops: u32,
 }
@@ -53,6 +55,14 @@ impl InputWord {
                 }
                 self.override_given = true;
                 self.bits |= number << 28;
+            }
+            "gear" => {
+                let number = number_below(8, "a gear's number", rest)?;
+                if self.gear_given {
+                    return Err("the gear is given twice".into());
+                }
+                self.gear_given = true;
+                self.bits |= number << 8;
             }
             "no-stop" => self.no_stop = true,
             "bit" => self.bits |= 1 << number_below(32, "a bit number", rest)?,
@@ -110,7 +120,7 @@ fn number_below(end: u32, what: &str, rest: &mut dyn Iterator<Item = &str>) -> R
 
 /// An input word as text, in words if each of its bits has a meaning.
 pub fn show(inputs: u32) -> String {
-    if inputs & !INPUT_BITS != 0 {
+    if inputs & !(INPUT_BITS | GEAR_BITS) != 0 {
         return format!("0x{inputs:08x}");
     }
     let mut items: Vec<String> = Vec::new();
@@ -128,6 +138,9 @@ pub fn show(inputs: u32) -> String {
     }
     if inputs >> 28 != 0 {
         items.push(format!("override {}", inputs >> 28));
+    }
+    if inputs & GEAR_BITS != 0 {
+        items.push(format!("gear {}", (inputs & GEAR_BITS) >> 8));
     }
     if bit(inputs, 12) {
         items.push("SE2".into());

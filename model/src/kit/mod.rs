@@ -7,7 +7,7 @@ mod show;
 pub use assemble::{assemble, text, Fault};
 pub use show::show;
 
-use crate::machine_data::{self, range};
+use crate::machine_data::{self, range, COUNT, HEADS};
 use crate::words;
 
 /// A datum as it stands in a list: its form and its pieces' bits.
@@ -66,17 +66,38 @@ enum Else {
 
 impl Else {
     /// The datum of this number.
-    fn datum(self, number: usize, before: &[Datum; machine_data::COUNT]) -> Datum {
+    fn datum(self, number: usize, before: &Stated) -> Datum {
         match self {
             Else::Lowest => Datum::Whole(machine_data::lowest(number)),
             Else::Highest if number == 11 || number == 13 => Datum::Whole(range(number).0),
             Else::Highest => Datum::Whole(range(number).1),
-            Else::AsA => before[number],
+            Else::AsA => before.data[number],
+        }
+    }
+
+    /// How many data a list has that does not say so.
+    fn count(self, before: &Stated) -> usize {
+        match self {
+            Else::Lowest | Else::Highest => HEADS[0],
+            Else::AsA => before.count,
         }
     }
 }
 
-/// The data of a list without further word.
-fn lowest() -> [Datum; machine_data::COUNT] {
-    std::array::from_fn(|number| Datum::Whole(machine_data::lowest(number)))
+/// The data that a list states.
+#[derive(Clone, Copy, Debug, PartialEq, Eq)]
+pub struct Stated {
+    data: [Datum; COUNT],
+    /// How many of them it has; the others are lowest.
+    count: usize,
+}
+
+impl Default for Stated {
+    /// A list without further word.
+    fn default() -> Stated {
+        Stated {
+            data: std::array::from_fn(|number| Datum::Whole(machine_data::lowest(number))),
+            count: HEADS[0],
+        }
+    }
 }

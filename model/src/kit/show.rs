@@ -1,7 +1,7 @@
 //! From a kit's bytes to the text form.
 
-use super::{assemble, input_words, lowest, Datum, Else};
-use crate::machine_data::COUNT;
+use super::{assemble, input_words, Datum, Else, Stated};
+use crate::machine_data::{COUNT, HEADS};
 use crate::{words, Paper};
 use std::fmt::Write;
 
@@ -61,9 +61,11 @@ fn text(lines: impl IntoIterator<Item = String>) -> String {
 struct Found {
     /// Its lines without the first.
     lines: Vec<String>,
+    /// ` of 67 data`, if it has as many and this is not said otherwise.
+    of: String,
     /// `head ..` or `no head`, if it has another head.
     head: String,
-    data: [Datum; COUNT],
+    data: Stated,
     behind: usize,
     /// Whether all its data are there.
     complete: bool,
@@ -71,11 +73,12 @@ struct Found {
 
 /// The lists at the front of some words, and the place behind them.
 fn lists(words: &[u32], lines: &mut Vec<String>) -> usize {
-    let Some(a) = list_at(words, 0, Else::Lowest, &lowest()) else {
+    let Some(a) = list_at(words, 0, Else::Lowest, &Stated::default()) else {
         return 0;
     };
     let at_b = a.behind;
-    let b = match a.complete || words.get(at_b) == Some(&words::head()) {
+    let head = words.get(at_b).and_then(|&word| head_of(word));
+    let b = match a.complete || head.is_some() {
         true => list_at(words, at_b, Else::Lowest, &a.data),
         false => None,
     };
@@ -97,27 +100,48 @@ fn lists(words: &[u32], lines: &mut Vec<String>) -> usize {
 }
 
 fn push_list(name: &str, otherwise: &str, list: &Found, lines: &mut Vec<String>) {
-    lines.push(format!("{name}, {otherwise}{}", list.head));
+    lines.push(format!("{name}{}, {otherwise}{}", list.of, list.head));
     lines.extend(list.lines.iter().map(|line| format!("  {line}")));
 }
 
+/// How many data a right head says.
+fn head_of(word: u32) -> Option<usize> {
+    words::head_of(Paper, word)
+}
+
 /// The list at a place, if its head or its first datum is there.
-fn list_at(words: &[u32], place: usize, otherwise: Else, before: &[Datum; COUNT]) -> Option<Found> {
+fn list_at(words: &[u32], place: usize, otherwise: Else, before: &Stated) -> Option<Found> {
     let first = *words.get(place)?;
     let second = words.get(place + 1..).unwrap_or(&[]);
-    let (head, place) = if first == words::head() {
-        (String::new(), place + 1)
+    let (head, place) = if head_of(first).is_some() {
+        (Some(first), place + 1)
     } else if Datum::read(&words[place..], 0).is_some() {
-        (", no head".into(), place)
+        (None, place)
     } else if Datum::read(second, 0).is_some() {
-        (format!(", head 0x{first:08x}"), place + 1)
+        (Some(first), place + 1)
     } else {
         return None;
     };
+    let says = head.and_then(head_of);
+    let count = match has_datum(words, place, HEADS[0]) {
+        true => COUNT,
+        false => says.unwrap_or(HEADS[0]),
+    };
     let mut list = Found {
         lines: Vec::new(),
-        head,
-        data: lowest(),
+        of: match otherwise.count(before) == count {
+            true => String::new(),
+            false => format!(" of {count} data"),
+        },
+        head: match head {
+            None => ", no head".into(),
+            Some(_) if says == Some(count) => String::new(),
+            Some(word) => format!(", head 0x{word:08x}"),
+        },
+        data: Stated {
+            count,
+            ..Stated::default()
+        },
         behind: place,
         complete: false,
     };
@@ -125,12 +149,23 @@ fn list_at(words: &[u32], place: usize, otherwise: Else, before: &[Datum; COUNT]
     Some(list)
 }
 
+/// Whether the data from a place on go so far as this number.
+fn has_datum(words: &[u32], place: usize, number: usize) -> bool {
+    let rest = words.get(place..).unwrap_or(&[]);
+    let of_list = |word: &&u32| [words::DATUM, words::PIECE].contains(&words::kind(**word));
+    let data = rest.iter().take_while(of_list);
+    let last = data
+        .filter(|&&word| words::kind(word) == words::DATUM)
+        .last();
+    last.is_some_and(|&word| (word >> 16 & 0xff) as usize >= number)
+}
+
 impl Found {
     /// Reads data in number order, with what is damaged between them word by word.
-    fn read(&mut self, words: &[u32], otherwise: Else, before: &[Datum; COUNT]) {
+    fn read(&mut self, words: &[u32], otherwise: Else, before: &Stated) {
         let mut unstated = None;
         let mut number = 0;
-        while number < COUNT {
+        while number < self.data.count {
             let rest = &words[self.behind..];
             if let Some((datum, length)) = Datum::read(rest, number) {
                 let usual = otherwise.datum(number, before) == datum;
@@ -138,7 +173,7 @@ impl Found {
                     self.lines.push(datum_line(number, datum));
                 }
                 unstated = usual.then_some((number, datum));
-                self.data[number] = datum;
+                self.data.data[number] = datum;
                 self.behind += length;
                 number += 1;
                 continue;
@@ -146,7 +181,7 @@ impl Found {
             if let Some((number, datum)) = unstated.take() {
                 self.lines.push(datum_line(number, datum));
             }
-            let Some((damaged, found)) = next_datum(rest, number) else {
+            let Some((damaged, found)) = next_datum(rest, number, self.data.count) else {
                 self.lines.push("cut".into());
                 return;
             };
@@ -163,14 +198,14 @@ impl Found {
     }
 }
 
-/// How far the next datum of at least this number lies, and its number.
-fn next_datum(words: &[u32], number: usize) -> Option<(usize, usize)> {
+/// How far the next datum of at least this number lies, and its number, in a list of so many.
+fn next_datum(words: &[u32], number: usize, count: usize) -> Option<(usize, usize)> {
     for (place, &word) in words.iter().enumerate() {
         if words::kind(word) == words::HEAD || words::kind(word) == words::POSITION {
             return None;
         }
         let found = (word >> 16 & 0xff) as usize;
-        if found >= number && found < COUNT && Datum::read(&words[place..], found).is_some() {
+        if found >= number && found < count && Datum::read(&words[place..], found).is_some() {
             return Some((place, found));
         }
     }

@@ -4,9 +4,10 @@ use super::reached::{add_each, named, CODES, RANKS};
 use super::{damage, drive, Parts, Xorshift};
 use crate::channel::image::{self, Image, Lent, WORDS};
 use crate::channel::{bit, Report};
+use crate::gear::GEAR_BITS;
 use crate::list::Refusal;
 use crate::log::Record;
-use crate::machine_data::COUNT;
+use crate::machine_data::{COUNT, HEADS};
 use crate::{device, list, log, words};
 use std::fmt;
 
@@ -337,16 +338,18 @@ impl Calls {
     fn other_report(&mut self, mut report: Report) -> Report {
         let of = self.random.below(CHANNELS);
         let random = &mut self.random;
-        match random.below(5) {
+        match random.below(6) {
             0 => report.position = report.position.wrapping_add(odd(random) as i32),
             1 => report.inputs ^= 1 << random.below(32),
             2 => report.datum = report.datum.wrapping_add(random.pick(&[-1, 1, 7])),
             3 => return self.channels.0[of].report(report.position, report.inputs),
+            4 => report.head = other_head(random),
             _ => {
-                let any = [0; 3].map(|_| odd(random));
+                let any = [0; 4].map(|_| odd(random));
                 report.position = any[0] as i32;
                 report.inputs = any[1];
                 report.datum = any[2] as i32;
+                report.head = any[3] as usize;
             }
         }
         report
@@ -399,13 +402,21 @@ impl Calls {
     }
 }
 
+/// What a report may say of a head: one of the two, one beside them, or any word.
+fn other_head(random: &mut Xorshift) -> usize {
+    let any = odd(random);
+    random.pick(&[0, 50, 51, 52, 66, 67, 68, any]) as usize
+}
+
 /// A number of any size, often one beside an end.
 fn odd(random: &mut Xorshift) -> u32 {
     let any = random.next() as u32;
     match random.below(4) {
         0 => any,
         1 => any >> random.below(32),
-        2 => random.pick(&[0, 1, 2, 3, 5, 50, 51, 255, 256, 1_000, 1_001, 1_002]),
+        2 => random.pick(&[
+            0, 1, 2, 3, 5, 50, 51, 66, 67, 68, 255, 256, 1_000, 1_001, 1_002,
+        ]),
         _ => random.pick(&[
             1 << 31,
             (1 << 31) - 1,
@@ -437,6 +448,11 @@ named! {
         AfterRefused7: "a cycle after a log refused with 7",
         CycleOfAnyContent: "a cycle of a channel with any content",
         OtherCount: "a cycle of a list with another count",
+        OtherHead: "a cycle with a report of another head",
+        HeadAlone: "cause 12 by the head alone",
+        GearOfList: "a cycle with a gear's bits and a list headed 67",
+        GearOfCount: "a cycle with a gear's bits and a count above 67",
+        GearBelow67: "a cycle with a gear's bits and a count below 67",
         NoCause: "no cause",
         Held: "held",
         F: "F on",
@@ -556,8 +572,11 @@ impl ReachedCalls {
                 self.event(Event::ReportOfNoDatum, before.0[of].channel().k() >= COUNT);
                 self.event(Event::ReportOfAnyContent, pasts[of].any_content);
             }
-            (call @ &Call::Cycle { of, .. }, &Answer::Cycle { word, codes }) => {
+            (call @ &Call::Cycle { of, report, .. }, &Answer::Cycle { word, codes }) => {
                 self.given(call, before, pasts);
+                let own = before.0[of].report(0, 0);
+                let alone = codes.contains(&12) && own.datum == report.datum;
+                self.event(Event::HeadAlone, alone);
                 self.cycle(word, codes, &mut pasts[of]);
                 pasts[of].k = before.0[of].channel().k();
             }
@@ -602,9 +621,9 @@ impl ReachedCalls {
         let &Call::Cycle {
             of,
             position,
+            inputs,
             acknowledged,
             report,
-            ..
         } = call
         else {
             return;
@@ -632,10 +651,13 @@ impl ReachedCalls {
         self.event(Event::AfterRefused6, past.log == Some(6));
         self.event(Event::AfterRefused7, past.log == Some(7));
         self.event(Event::CycleOfAnyContent, past.any_content);
-        self.event(
-            Event::OtherCount,
-            channel.state()[image::word::COUNT] != COUNT as u32,
-        );
+        let count = channel.state()[image::word::COUNT] as usize;
+        self.event(Event::OtherCount, !HEADS.contains(&count));
+        self.event(Event::OtherHead, report.head != count);
+        let gear = inputs & GEAR_BITS != 0;
+        self.event(Event::GearOfList, gear && count == COUNT);
+        self.event(Event::GearOfCount, gear && count > COUNT);
+        self.event(Event::GearBelow67, gear && count < COUNT);
     }
 
     /// What a cycle gives.

@@ -1,7 +1,7 @@
 //! Damage at every layer: heads, forms, pieces, floats, ranges, ends, records, remarks, cuts.
 
 use super::{binary32, binary64, whole, Parts, Xorshift};
-use crate::machine_data::{range, COUNT};
+use crate::machine_data::{range, COUNT, HEADS};
 use crate::words;
 
 /// The bytes of a kit with one damage, or now and then with more.
@@ -29,23 +29,43 @@ fn either_list<'a>(random: &mut Xorshift, parts: &'a mut Parts) -> &'a mut Vec<V
 }
 
 fn damage_head(random: &mut Xorshift, parts: &mut Parts) {
-    let head = match random.percent(50) {
-        true => &mut parts.head_a,
-        false => &mut parts.head_b,
+    let (head, list) = match random.percent(50) {
+        true => (&mut parts.head_a, &mut parts.list_a),
+        false => (&mut parts.head_b, &mut parts.list_b),
     };
-    *head = match random.below(7) {
+    let right = words::head(list.len());
+    let other = words::head(HEADS[0] + COUNT - list.len());
+    *head = match random.below(10) {
         0 => vec![],
-        1 => vec![words::head() + 1],
-        2 => vec![words::head() - 1],
-        3 => vec![words::head() | 1 << random.between(6, 27)],
-        4 => vec![words::head() ^ 1 << random.between(28, 31)],
-        5 => vec![words::remark(51), words::head()],
-        _ => vec![words::head(), words::head()],
+        1 => vec![right + 1],
+        2 => vec![right - 1],
+        3 => vec![right | 1 << random.between(7, 27)],
+        4 => vec![right ^ 1 << random.between(28, 31)],
+        5 => vec![words::remark(51), right],
+        6 => vec![right, right],
+        7 => vec![other],
+        8 => vec![words::head(
+            random.pick(&[0, 50, 52, 59, 60, 65, 66, 68, 69, 255]),
+        )],
+        _ => {
+            // A list of as many data as another head says.
+            let count = random.pick(&[50, 52, 60, 66, 68]);
+            let last = list.last().cloned().unwrap_or_default();
+            list.truncate(count);
+            for number in list.len()..count {
+                let mut datum = last.clone();
+                if let Some(word) = datum.first_mut() {
+                    *word = words::datum(number, *word & 3);
+                }
+                list.push(datum);
+            }
+            vec![words::head(count)]
+        }
     };
 }
 
 /// The rows of the machine data, first and last datum of each.
-const ROWS: [(i64, i64); 16] = [
+const ROWS: [(i64, i64); 18] = [
     (0, 0),
     (1, 1),
     (2, 2),
@@ -62,13 +82,15 @@ const ROWS: [(i64, i64); 16] = [
     (33, 33),
     (34, 34),
     (35, 50),
+    (51, 58),
+    (59, 66),
 ];
 
 /// The number of a datum: its row first, so that each row has its turn.
 fn datum_number(random: &mut Xorshift) -> usize {
     let (first, last) = random.pick(&ROWS);
     match random.below(4) {
-        0 => random.pick(&[0, 1, 49, 50, 50]),
+        0 => random.pick(&[0, 1, 49, 50, 50, 51, 65, 66, 66]),
         _ => random.between(first, last) as usize,
     }
 }
@@ -221,18 +243,19 @@ fn odd_double(random: &mut Xorshift, low: i32) -> u64 {
 /// An SE minus at or above its plus, and perhaps a later fault.
 fn cross_se(random: &mut Xorshift, parts: &mut Parts) {
     let list = either_list(random, parts);
-    if list.len() < COUNT {
+    let Some(last) = list.len().checked_sub(1).filter(|&last| last >= 50) else {
         return;
-    }
+    };
     for minus in random.pick(&[&[11][..], &[13], &[11, 13]]).iter().copied() {
         let plus = random.between(-1000, 1000) as i32;
         list[minus] = whole(minus, plus + random.pick(&[0, 0, 1, 500]));
         list[minus + 1] = whole(minus + 1, plus);
     }
-    match random.below(6) {
-        0 => list[50] = whole(50, 101),
-        1 => list[random.between(15, 50) as usize].push(words::piece(0)),
+    match random.below(8) {
+        0 => list[last] = whole(last, 1001),
+        1 => list[random.between(15, last as i64) as usize].push(words::piece(0)),
         2 => list[40] = vec![words::datum(40, 3)],
+        3 => list[last] = vec![words::datum(last, 3)],
         _ => (),
     }
 }

@@ -2,6 +2,7 @@
 
 use super::Xorshift;
 use crate::channel::{bit, Channel};
+use crate::gear::GEAR_BITS;
 use crate::machine_data::{number, Function, MachineData, COUNT};
 use crate::selection::Selection;
 use crate::stop::Rank;
@@ -13,8 +14,8 @@ const NO_STOP: u32 = 0xf << 18;
 /// A log of records and remarks for channels with these data.
 pub fn log(
     random: &mut Xorshift,
-    data_a: &[i32; COUNT],
-    data_b: &[i32; COUNT],
+    data_a: &[i32],
+    data_b: &[i32],
     cycles: Option<usize>,
 ) -> Vec<Vec<u32>> {
     let cycles = cycles.unwrap_or_else(|| any_cycles(random));
@@ -22,7 +23,8 @@ pub fn log(
         0 => random.pick(&[0, 60]),
         _ => random.pick(&[0, 0, 0, 10, 40]),
     };
-    let mut driver = Driver::new(random, data_a, data_b);
+    let fresh = |data| Channel::fresh(MachineData::of(data));
+    let mut driver = Driver::new(random, fresh(data_a), fresh(data_b));
     let mut log = Vec::new();
     for _ in 0..cycles {
         push_remarks(driver.random, remarks, &mut log);
@@ -34,8 +36,7 @@ pub fn log(
 
 /// So many records for two channels with a past.
 pub fn records(random: &mut Xorshift, a: &Channel, b: &Channel, cycles: usize) -> Vec<Vec<u32>> {
-    let mut driver = Driver::new(random, a.data().data(), b.data().data());
-    (driver.a, driver.b) = (*a, *b);
+    let mut driver = Driver::new(random, *a, *b);
     if let Some(previous) = a.previous() {
         driver.position = previous.clamp(-100_000_000, 100_000_000);
     }
@@ -94,9 +95,7 @@ struct Driver<'a> {
 }
 
 impl<'a> Driver<'a> {
-    fn new(random: &'a mut Xorshift, data_a: &[i32; COUNT], data_b: &[i32; COUNT]) -> Driver<'a> {
-        let fresh = |data| Channel::fresh(MachineData::looked_through(data));
-        let (a, b) = (fresh(*data_a), fresh(*data_b));
+    fn new(random: &'a mut Xorshift, a: Channel, b: Channel) -> Driver<'a> {
         let calm = random.percent(50);
         let habits = Habits {
             moves: random.pick(&[20, 40, 60]),
@@ -118,7 +117,7 @@ impl<'a> Driver<'a> {
             inputs_b: 0,
             differing: 0,
         };
-        driver.inputs = driver.selection() | NO_STOP;
+        driver.inputs = driver.selection() | driver.gear() | NO_STOP;
         driver
     }
 
@@ -203,7 +202,7 @@ impl<'a> Driver<'a> {
         let side = self.random.pick(&[-1, 1]);
         let standstill = i64::from(data.get(number::STANDSTILL));
         let here = i64::from(channel.previous().unwrap_or(self.position));
-        match self.random.below(9) {
+        match self.random.below(10) {
             0 | 1 => match channel.stop().held {
                 Some(reference) => i64::from(reference) + side * (standstill + beside),
                 None => here + side * (self.sg_step(&channel) + beside),
@@ -226,7 +225,14 @@ impl<'a> Driver<'a> {
             }
             7 => {
                 let speed = self.random.pick(&[number::NX, number::SHUTDOWN]);
-                here + side * (data.times_t(data.get(speed)) / 60 + beside)
+                let (numerator, denominator) = self.ratio(data);
+                let bound = data.times_t(data.get(speed)) * denominator / (60 * numerator);
+                here + side * (bound + beside)
+            }
+            8 => {
+                // Times the numerator just past 32 bits, if it can be.
+                let (numerator, _) = self.ratio(data);
+                here + side * ((1 << 32) / numerator + beside)
             }
             _ => {
                 let end = side * 100_000_000;
@@ -249,14 +255,37 @@ impl<'a> Driver<'a> {
         let override_number = self.random.pick(&[override_number, override_number, other]);
         let data = channel.data();
         let product = Selection::limit_percent(Paper, data, sg, override_number);
-        product * i64::from(data.get(number::T)) / 6000
+        let (numerator, denominator) = self.ratio(data);
+        product * i64::from(data.get(number::T)) * denominator / (6000 * numerator)
+    }
+
+    /// The ratio that the inputs pick, or another.
+    fn ratio(&mut self, data: &MachineData) -> (i64, i64) {
+        let present = (self.inputs & GEAR_BITS) as usize >> 8;
+        let any = self.random.below(8);
+        let gear = self.random.pick(&[present, present, present, any]);
+        let of = |first: usize| i64::from(data.get(first + gear)).max(1);
+        (of(number::NUMERATOR), of(number::DENOMINATOR))
+    }
+
+    /// The bits of a ratio's number, 0 where a list has none.
+    fn gear(&mut self) -> u32 {
+        let [a, b] = [&self.a, &self.b].map(|channel| channel.data().head() >= COUNT);
+        let gear = (self.random.below(8) as u32) << 8;
+        if a && b || (a || b) && self.random.percent(50) {
+            gear
+        } else {
+            0
+        }
     }
 
     fn next_inputs(&mut self) -> u32 {
         if self.random.percent(self.habits.changes) {
             let kept = self.inputs;
-            self.inputs = match self.random.below(8) {
+            self.inputs = match self.random.below(11) {
                 0..=3 => kept & !0xf000_001b | self.selection(),
+                8 | 9 => kept & !GEAR_BITS | self.gear(),
+                10 => kept & !0xf000_071b | self.selection() | self.gear(),
                 4 => kept ^ 1 << 12,
                 5 => kept & 0x0fff_ffff | (self.random.below(16) as u32) << 28,
                 6 => kept ^ self.random.pick(&[1, 2, 8, 16]),
@@ -308,9 +337,19 @@ impl<'a> Driver<'a> {
                 .get(number::INPUT_DIFFERENCE)
                 .clamp(0, 5);
             self.differing = (allowed + self.random.pick(&[0, 1, 1, 2])) as usize;
-            let odd = self
-                .random
-                .pick(&[1, 2, 8, 16, 1 << 12, 1 << 18, 1 << 21, 1 << 28, 1 << 31]);
+            let odd = self.random.pick(&[
+                1,
+                2,
+                8,
+                16,
+                1 << 8,
+                1 << 10,
+                1 << 12,
+                1 << 18,
+                1 << 21,
+                1 << 28,
+                1 << 31,
+            ]);
             self.inputs_b = odd;
         }
         if self.differing == 0 {
@@ -336,7 +375,7 @@ impl<'a> Driver<'a> {
         loop {
             let number = self
                 .random
-                .pick(&[2, 5, 11, 13, 17, 22, 27, 6, 8, 10, 14, 16, 23, 25]);
+                .pick(&[2, 5, 7, 11, 13, 17, 22, 27, 6, 8, 9, 10, 14, 16, 23, 25]);
             if !bit(crate::channel::INPUT_BITS, number) {
                 return 1 << number;
             }

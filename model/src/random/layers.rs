@@ -10,6 +10,7 @@ named! {
     Layer {
         HeadMissing: "1: the head missing",
         HeadWrong: "1: the head wrong",
+        HeadOther: "1: a head that says another number",
         ListWordMissing: "1: a later word missing",
         SecondHead: "1: a head in a list",
         DatumWord: "1: a datum's word of another number or place, or with other bits",
@@ -60,6 +61,7 @@ impl Layer {
     fn of_list(word: Option<u32>, place: usize) -> Layer {
         match word.map(words::kind) {
             None if place == 0 => Layer::HeadMissing,
+            Some(words::HEAD) if place == 0 => Layer::HeadOther,
             _ if place == 0 => Layer::HeadWrong,
             None => Layer::ListWordMissing,
             Some(words::HEAD) => Layer::SecondHead,

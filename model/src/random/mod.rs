@@ -10,7 +10,7 @@ mod reached;
 pub use calls::{calls, Answer, Call, Channels, ReachedCalls, CHANNELS};
 pub use reached::Reached;
 
-use crate::machine_data::{range, MachineData, COUNT};
+use crate::machine_data::{lowest, range, COUNT, HEADS};
 use crate::words;
 
 /// A seeded xorshift.
@@ -134,19 +134,28 @@ fn parts(random: &mut Xorshift, cycles: Option<usize>) -> Parts {
     let list_a = list(random, &data_a);
     let list_b = list(random, &data_b);
     Parts {
-        head_a: vec![words::head()],
+        head_a: vec![words::head(data_a.len())],
         list_a,
-        head_b: vec![words::head()],
+        head_b: vec![words::head(data_b.len())],
         list_b,
         log: drive::log(random, &data_a, &data_b, cycles),
         tail: Vec::new(),
     }
 }
 
-/// Machine data whose bounds lie close to each other, so that a short log can reach them.
-fn data(random: &mut Xorshift) -> [i32; COUNT] {
-    let mut data = *MachineData::lowest().data();
+/// Machine data whose bounds lie close to each other, so that a short log can reach them; of
+/// either head.
+fn data(random: &mut Xorshift) -> Vec<i32> {
+    let head = random.pick(&HEADS);
+    let mut data: Vec<i32> = (0..head).map(lowest).collect();
     let near = random.pick(&[0, 0, 0, 0, 0, 0, 99_999_000, -99_999_000]);
+    let ratios = random.pick(&[
+        &[1][..],
+        &[1, 1, 1, 2, 3],
+        &[1, 2, 3, 5, 7, 10],
+        &[1, 7, 10, 99, 100, 999, 1000],
+        &[1, 1, 997],
+    ]);
     let times = random.pick(&[
         &[0, 0, 1, 2, 3][..],
         &[0, 1, 2, 3, 5, 8],
@@ -175,7 +184,8 @@ fn data(random: &mut Xorshift) -> [i32; COUNT] {
             29..=32 => random.pick(times),
             33 => random.pick(&[0, 0, 0, 1, 50, 500, 1_000_000]),
             34 => random.pick(times),
-            _ => random.pick(&[1, 10, 50, 50, 99, 100, 100, 100]),
+            35..=50 => random.pick(&[1, 10, 50, 50, 99, 100, 100, 100]),
+            _ => random.pick(ratios),
         };
     }
     if random.percent(4) {
@@ -196,7 +206,7 @@ fn functions(random: &mut Xorshift) -> i32 {
 }
 
 /// Each datum at one end of its range.
-fn at_range_ends(random: &mut Xorshift, data: &mut [i32; COUNT]) {
+fn at_range_ends(random: &mut Xorshift, data: &mut [i32]) {
     for (number, datum) in data.iter_mut().enumerate() {
         let (low, high) = range(number);
         *datum = match number {
@@ -208,7 +218,7 @@ fn at_range_ends(random: &mut Xorshift, data: &mut [i32; COUNT]) {
 }
 
 /// Puts each SE minus below its plus.
-fn order_se(data: &mut [i32; COUNT]) {
+fn order_se(data: &mut [i32]) {
     for minus in [11, 13] {
         let low = data[minus].min(data[minus + 1]);
         let high = data[minus].max(data[minus + 1]);
@@ -217,20 +227,29 @@ fn order_se(data: &mut [i32; COUNT]) {
     }
 }
 
-/// The data of list B: mostly those of A, else with a few of its own.
-fn other_data(random: &mut Xorshift, data_a: &[i32; COUNT]) -> [i32; COUNT] {
-    let mut data_b = *data_a;
+/// The data of list B: mostly those of A, else with a few of its own, or with another head.
+fn other_data(random: &mut Xorshift, data_a: &[i32]) -> Vec<i32> {
+    let mut data_b = data_a.to_vec();
     if random.percent(75) {
         return data_b;
     }
     if random.percent(10) {
         return data(random);
     }
+    if random.percent(20) {
+        let head = if data_a.len() == COUNT {
+            HEADS[0]
+        } else {
+            COUNT
+        };
+        data_b.resize(head, random.pick(&[1, 1, 2, 3]));
+        return data_b;
+    }
     for _ in 0..random.pick(&[1, 1, 1, 2, 4]) {
         let number = match random.below(3) {
-            0 => random.below(COUNT),
+            0 => random.below(data_b.len()),
             1 => random.below(12),
-            _ => random.pick(&[0, 1, 49, 50]),
+            _ => random.pick(&[0, 1, 50, data_b.len() - 2, data_b.len() - 1]),
         };
         let (low, high) = range(number);
         let datum = data_b[number];
@@ -243,7 +262,7 @@ fn other_data(random: &mut Xorshift, data_a: &[i32; COUNT]) -> [i32; COUNT] {
 }
 
 /// The data as they arrive: whole numbers, binary32 and binary64.
-fn list(random: &mut Xorshift, data: &[i32; COUNT]) -> Vec<Vec<u32>> {
+fn list(random: &mut Xorshift, data: &[i32]) -> Vec<Vec<u32>> {
     let floats = random.pick(&[0, 0, 0, 10, 100]);
     let datum = |(number, &value): (usize, &i32)| match random.percent(floats) {
         false => whole(number, value),

@@ -2,11 +2,12 @@
 
 use super::layers::Layer;
 use crate::channel::{Channel, Cycle};
+use crate::gear::{Ratio, GEAR_BITS};
 use crate::log::{self, Side};
-use crate::machine_data::number;
+use crate::machine_data::{number, Function, HEADS};
 use crate::selection::Selection;
 use crate::stop::Rank;
-use crate::{list, listing, words};
+use crate::{list, listing, words, Paper};
 use std::fmt;
 
 /// Things that are counted, each with its name.
@@ -68,6 +69,14 @@ named! {
         CamFalls: "a cam signal falls",
         NxShows: "n<nx shows 1",
         KWraps: "k follows 50 by 0",
+        KWrapsAt66: "k follows 66 by 0",
+        Ratio: "a ratio other than 1 to 1",
+        RatioChanges: "another ratio than in the cycle before",
+        SgByRatio: "an SG is overstepped, or not, by the ratio",
+        NxByRatio: "n<nx shows, or not, by the ratio",
+        ShutdownByRatio: "B becomes A, or not, by the ratio",
+        HeadsDiffer: "cause 12 by the head alone",
+        GearAt51: "unusable by a gear bit with a list headed 51",
     }
 }
 
@@ -77,6 +86,8 @@ named! {
         Binary32: "with a binary32",
         Binary64: "with a binary64",
         MinusZero: "with minus zero",
+        Gears: "with a list headed 67",
+        HeadsDiffer: "with unlike heads",
         ListsDiffer: "with unlike lists",
         Remarks: "with remarks",
         EmptyLog: "with an empty log",
@@ -182,6 +193,8 @@ impl Reached {
         };
         let (lists, log) = words.split_at(behind_a + behind_b);
         self.lists(lists);
+        self.kit(Kit::Gears, data_a.head() > HEADS[0]);
+        self.kit(Kit::HeadsDiffer, data_a.head() != data_b.head());
         self.kit(Kit::ListsDiffer, data_a != data_b);
         self.kit(Kit::Remarks, log.len() as u64 > 7 * cycles);
         self.kit(Kit::EmptyLog, log.is_empty());
@@ -202,9 +215,10 @@ impl Reached {
     }
 
     fn run(&mut self, mut a: Channel, mut b: Channel, log: &[u32]) {
+        let mut last: Option<log::Record> = None;
         for record in log::records(log) {
             let (before_a, before_b) = (a, b);
-            let (of_a, of_b) = log::both(crate::Paper, &mut a, &mut b, record);
+            let (of_a, of_b) = log::both(Paper, &mut a, &mut b, record);
             self.cycle(
                 &before_a,
                 &a,
@@ -213,6 +227,8 @@ impl Reached {
                 record.acknowledged,
                 of_b.causes.stands(1),
             );
+            self.heads(&before_a, &before_b, &of_a);
+            self.ratio(&before_a, &a, &of_a, record.a, last.map(|last| last.a));
             self.cycle(
                 &before_b,
                 &b,
@@ -221,6 +237,9 @@ impl Reached {
                 record.acknowledged,
                 of_a.causes.stands(1),
             );
+            self.heads(&before_b, &before_a, &of_b);
+            self.ratio(&before_b, &b, &of_b, record.b, last.map(|last| last.b));
+            last = Some(record);
         }
     }
 
@@ -240,9 +259,13 @@ impl Reached {
         for (bit, cam) in (8..).zip(&mut self.cams) {
             *cam += u64::from(cycle.word >> bit & 1);
         }
-        self.event(Event::KWraps, before.k() == 50);
+        let wraps = after.k() == 0;
+        self.event(Event::KWraps, wraps && before.k() == 50);
+        self.event(Event::KWrapsAt66, wraps && before.k() == 66);
         if cycle.causes.stands(1) {
             self.unusable(before, other_unusable);
+            let gear = after.data().head() == HEADS[0] && side.inputs & GEAR_BITS != 0;
+            self.event(Event::GearAt51, gear);
             return;
         }
         self.selection(before, after);
@@ -252,6 +275,48 @@ impl Reached {
         self.event(Event::CamRises, is & !was != 0);
         self.event(Event::CamFalls, was & !is != 0);
         self.event(Event::NxShows, cycle.word >> 21 & 1 == 1);
+    }
+
+    /// What heads do, in a cycle of a channel beside another.
+    fn heads(&mut self, before: &Channel, other: &Channel, cycle: &Cycle) {
+        let datum = |channel: &Channel| channel.data().get(channel.k());
+        let alone = cycle.causes.stands(12) && datum(before) == datum(other);
+        self.event(Event::HeadsDiffer, alone);
+    }
+
+    /// What the ratio of a usable cycle does.
+    fn ratio(
+        &mut self,
+        before: &Channel,
+        after: &Channel,
+        cycle: &Cycle,
+        side: Side,
+        last: Option<Side>,
+    ) {
+        if cycle.causes.stands(1) {
+            return;
+        }
+        let data = after.data();
+        let ratio = Ratio::of(Paper, data, side.inputs);
+        let (step, bound) = (ratio.step(Paper, 1), ratio.bound(1));
+        self.event(Event::Ratio, step != bound);
+        let was = last.map(|last| Ratio::of(Paper, data, last.inputs));
+        self.event(Event::RatioChanges, was.is_some_and(|was| was != ratio));
+        let d = step_of(before, side).abs();
+        let slower = |speed: usize| d * 60 < data.times_t(data.get(speed));
+        let slower_by_ratio = |speed: usize| d * step * 60 < bound * data.times_t(data.get(speed));
+        let changed = |speed: usize| slower(speed) != slower_by_ratio(speed);
+        self.event(
+            Event::NxByRatio,
+            changed(number::NX) && data.has(Paper, Function::Nx),
+        );
+        let braking = after.stop().rank >= Rank::B && before.stop().rank == Rank::B;
+        self.event(Event::ShutdownByRatio, changed(number::SHUTDOWN) && braking);
+        if let effective @ Selection::Sg { .. } = after.selections().effective {
+            let t = i64::from(data.get(number::T));
+            let over = d * 6000 > effective.leeway(Paper, data) * t;
+            self.event(Event::SgByRatio, over != cycle.causes.stands(3));
+        }
     }
 
     fn event(&mut self, event: Event, happened: bool) {
@@ -279,14 +344,12 @@ impl Reached {
                 override_number,
             } => {
                 self.event(EFFECTIVE[usize::from(sg & 3)], true);
-                let percent = Selection::percent(crate::Paper, after.data(), sg, override_number);
+                let percent = Selection::percent(Paper, after.data(), sg, override_number);
                 self.event(Event::OverrideEffective, percent < 100);
             }
             Selection::Sbh => self.event(Event::SbhEffective, true),
         }
-        let bound = is
-            .effective
-            .stricter(crate::Paper, after.data(), was.effective);
+        let bound = is.effective.stricter(Paper, after.data(), was.effective);
         self.event(Event::CountSet, was.count == 0 && is.count > 0);
         self.event(Event::CountGoesOn, was.count > 0 && is.count > 0);
         self.event(Event::CountBinds, was.count > 0 && is.count == 0 && bound);
@@ -319,10 +382,10 @@ impl Reached {
             } else {
                 time == 0
             };
-            let d = before
-                .previous()
-                .map_or(0, |previous| i64::from(side.position) - i64::from(previous));
-            let slow = d.abs() * 60 < after.data().times_t(after.data().get(number::SHUTDOWN));
+            let ratio = Ratio::of(Paper, after.data(), side.inputs);
+            let step = ratio.step(Paper, step_of(before, side));
+            let speed = after.data().times_t(after.data().get(number::SHUTDOWN));
+            let slow = step.abs() * 60 < ratio.bound(speed);
             self.event(Event::BToAByTime, over);
             self.event(Event::BToABySpeed, slow && !over);
         }
@@ -403,6 +466,12 @@ const EFFECTIVE: [Event; 4] = [
     Event::Sg3Effective,
     Event::Sg4Effective,
 ];
+
+/// "d = position less previous position, 0 if there is none"
+fn step_of(before: &Channel, side: Side) -> i64 {
+    let step = |previous| i64::from(side.position) - i64::from(previous);
+    before.previous().map_or(0, step)
+}
 
 pub(super) fn add_each(counts: &mut [u64], others: &[u64]) {
     for (count, other) in counts.iter_mut().zip(others) {

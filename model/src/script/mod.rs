@@ -66,7 +66,7 @@ pub enum Call {
 #[derive(Clone, Copy, Debug, PartialEq, Eq)]
 pub enum Given {
     /// These words.
-    Words([u32; 3]),
+    Words([u32; 4]),
     /// What a channel reports.
     Of {
         of: usize,

@@ -1,9 +1,10 @@
 //! From a script's text to its calls.
 
 use super::{Call, Given, Script, Step, MARK};
-use crate::kit::assemble::{self, expect, integer, next, word, Stated, Tokens};
+use crate::kit::assemble::{self, expect, integer, next, word, Tokens};
 use crate::kit::input_words::InputWord;
-use crate::kit::Fault;
+use crate::kit::{Fault, Stated};
+use crate::machine_data::HEADS;
 use crate::words;
 use std::collections::BTreeMap;
 
@@ -193,10 +194,11 @@ impl Reading {
         let here = |reason: String| fault(block.call.number, reason);
         let (options, before) = match options.split_once("else as ") {
             None => (options.to_string(), None),
-            Some((front, name)) => {
-                let mut tokens = vec![name.trim()].into_iter().peekable();
+            Some((front, behind)) => {
+                let (name, behind) = behind.split_once(' ').unwrap_or((behind, ""));
+                let mut tokens = vec![name].into_iter().peekable();
                 let of = self.channel(&mut tokens).map_err(here)?;
-                (format!("{front} else as A"), self.stated.get(&of))
+                (format!("{front} else as A {behind}"), self.stated.get(&of))
             }
         };
         let text = block.kit(&format!("list {options}"));
@@ -346,13 +348,17 @@ fn side(tokens: &mut Tokens) -> Result<(i32, u32), String> {
     Ok((position as i32, inputs.word()?))
 }
 
-/// `401 SG1 datum 12`
-fn report(tokens: &mut Tokens) -> Result<[u32; 3], String> {
+/// `401 SG1 datum 12`, `401 SG1 datum 12 head 67`: without a word the head says 51.
+fn report(tokens: &mut Tokens) -> Result<[u32; 4], String> {
     let (position, inputs) = side(tokens)?;
     expect(tokens, "datum")?;
     let ends = (i64::from(i32::MIN), i64::from(i32::MAX));
     let datum = integer(next(tokens, "a datum")?, ends.0, ends.1, "a datum")?;
-    Ok([position as u32, inputs, datum as u32])
+    let head = match tokens.next_if_eq(&"head") {
+        None => HEADS[0] as i64,
+        Some(_) => integer(next(tokens, "a head")?, 0, u32::MAX.into(), "a head")?,
+    };
+    Ok([position as u32, inputs, datum as u32, head as u32])
 }
 
 // ---- answers

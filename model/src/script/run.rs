@@ -5,7 +5,7 @@ use crate::channel::image::{self, Lent, WORDS};
 use crate::channel::Report;
 use crate::kit::input_words;
 use crate::list::{self, Refusal};
-use crate::machine_data::COUNT;
+use crate::machine_data::{COUNT, HEADS};
 use std::fmt;
 
 /// What a cycle gives: the channel word, and the codes that stand with 0 behind them.
@@ -24,14 +24,14 @@ pub trait Board {
 
     fn list(channel: &mut Self::Channel, words: &[u32]) -> Result<usize, Refusal>;
 
-    fn report(channel: &Self::Channel, position: i32, inputs: u32) -> [u32; 3];
+    fn report(channel: &Self::Channel, position: i32, inputs: u32) -> [u32; 4];
 
     fn cycle(
         channel: &mut Self::Channel,
         position: i32,
         inputs: u32,
         acknowledged: u32,
-        report: &[u32; 3],
+        report: &[u32; 4],
     ) -> Cycle;
 
     fn device(a: u32, b: u32) -> u32;
@@ -60,9 +60,14 @@ impl Board for Model {
         Ok(used)
     }
 
-    fn report(channel: &Lent, position: i32, inputs: u32) -> [u32; 3] {
+    fn report(channel: &Lent, position: i32, inputs: u32) -> [u32; 4] {
         let report = channel.report(position, inputs);
-        [report.position as u32, report.inputs, report.datum as u32]
+        [
+            report.position as u32,
+            report.inputs,
+            report.datum as u32,
+            report.head as u32,
+        ]
     }
 
     fn cycle(
@@ -70,12 +75,13 @@ impl Board for Model {
         position: i32,
         inputs: u32,
         acknowledged: u32,
-        report: &[u32; 3],
+        report: &[u32; 4],
     ) -> Cycle {
         let report = Report {
             position: report[0] as i32,
             inputs: report[1],
             datum: report[2] as i32,
+            head: report[3] as usize,
         };
         let cycle = channel.cycle(position, inputs, acknowledged != 0, report);
         let mut codes = [0; 13];
@@ -118,7 +124,7 @@ impl Board for Proved {
         channel.read_list(words)
     }
 
-    fn report(channel: &Self::Channel, position: i32, inputs: u32) -> [u32; 3] {
+    fn report(channel: &Self::Channel, position: i32, inputs: u32) -> [u32; 4] {
         channel.report(position, inputs)
     }
 
@@ -127,7 +133,7 @@ impl Board for Proved {
         position: i32,
         inputs: u32,
         acknowledged: u32,
-        report: &[u32; 3],
+        report: &[u32; 4],
     ) -> Cycle {
         let cycle = channel.cycle(position, inputs, acknowledged, report);
         Cycle {
@@ -327,7 +333,11 @@ fn text(call: &Call, answer: &[u32]) -> String {
         Call::Log { .. } => accepted("ran"),
         Call::Report { .. } => {
             let (position, inputs) = (answer[0] as i32, input_words::show(answer[1]));
-            format!("{position} {inputs} datum {}", answer[2] as i32)
+            let head = match answer[3] as usize {
+                head if head == HEADS[0] => String::new(),
+                head => format!(" head {head}"),
+            };
+            format!("{position} {inputs} datum {}{head}", answer[2] as i32)
         }
         Call::Cycle { .. } => match answer {
             [word] => format!("{word:08x} no cause"),

@@ -19,13 +19,18 @@ pub fn list(text: &str) -> String {
     listing::list(&bytes(text))
 }
 
-/// Machine data that differ from the lowest in these.
+/// Machine data of a list of 51 that differ from the lowest in these.
 pub fn data(stated: &[(usize, i32)]) -> MachineData {
-    let mut data = *MachineData::lowest().data();
+    data_of(51, stated)
+}
+
+/// Machine data of a list of so many that differ from the lowest in these.
+pub fn data_of(head: usize, stated: &[(usize, i32)]) -> MachineData {
+    let mut data = MachineData::lowest(head).data().to_vec();
     for &(number, value) in stated {
         data[number] = value;
     }
-    MachineData::new(data).expect("data in their ranges")
+    MachineData::new(&data).expect("data in their ranges")
 }
 
 /// A seeded xorshift.

@@ -89,11 +89,12 @@ fn answer(channels: &mut [Channel; CHANNELS], call: &Call) -> Answer {
             position,
             inputs,
         } => {
-            let [position, inputs, datum] = channels[of].report(position, inputs);
+            let [position, inputs, datum, head] = channels[of].report(position, inputs);
             Answer::Report(Report {
                 position: position as i32,
                 inputs,
                 datum: datum as i32,
+                head: head as usize,
             })
         }
         Call::Cycle {

@@ -1,6 +1,6 @@
 //! Words: lists and logs are 32-bit words.
 
-use crate::deviation::{paper, Reading};
+use crate::deviation::{paper, Paper, Reading};
 use crate::machine_data::HEADS;
 
 /// "Kind 1: list head, value 51."; W1: "the list head then says 67"
@@ -41,20 +41,24 @@ fn value(word: u32, of_kind: u32, used: u32) -> Option<u32> {
 /// "Kind 1: list head, value 51."; W1: "the list head then says 67": how many data a right head says.
 pub fn head_of<R: Reading>(r: R, word: u32) -> Option<usize> {
     let says = HEADS.into_iter().find(|&count| word == head(count));
-    // Of deviations only.
-    let as_well = |taken: fn(usize) -> Option<usize>| match kind(word) {
-        HEAD => says.or(taken((word & 0x0fff_ffff) as usize)),
-        _ => None,
-    };
     paper!(r, says,
-        HeadValueIgnored => as_well(|_| Some(51)),
-        HeadsBetweenTaken => as_well(|says| (52..67).contains(&says).then_some(says)),
-        Head66Taken => as_well(|says| (says == 66).then_some(66)),
-        Head68Taken => as_well(|says| (says == 68).then_some(67)),
-        HeadsAboveTaken => as_well(|says| (says > 67).then_some(67)),
-        HeadInEightBits => as_well(|says| HEADS.into_iter().find(|&count| says & 0xff == count)),
+        HeadValueIgnored => other_head(word, |_| Some(51)),
+        HeadsBetweenTaken => other_head(word, |says| (52..67).contains(&says).then_some(says)),
+        Head66Taken => other_head(word, |says| (says == 66).then_some(66)),
+        Head68Taken => other_head(word, |says| (says == 68).then_some(67)),
+        HeadsAboveTaken => other_head(word, |says| (says > 67).then_some(67)),
+        HeadInEightBits => other_head(word, |says| HEADS.into_iter().find(|&count| says & 0xff == count)),
         Head67Refused => says.filter(|&says| says == 51),
         Head67Of51Data => says.map(|_| 51))
+}
+
+/// Of deviations only: what a head is taken for that is none.
+fn other_head(word: u32, taken: impl Fn(usize) -> Option<usize>) -> Option<usize> {
+    let says = (word & 0x0fff_ffff) as usize;
+    match HEADS.contains(&says) {
+        true => head_of(Paper, word),
+        false => taken(says).filter(|_| kind(word) == HEAD),
+    }
 }
 
 /// "Kind 2: datum, number in bits 16-23, form in bits 0-1.": the form of the datum's word.

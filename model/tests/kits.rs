@@ -77,6 +77,31 @@ byte 0x12
 }
 
 #[test]
+fn shown_text_says_how_many_data() {
+    for text in [
+        "lists A and B of 67 data, else lowest\n  0 = 12\n  66 = 7\nlog\nboth 0 SG1 override 2 gear 7 SE2\n",
+        "list A of 67 data, else lowest\n  51 = binary32 3\n  60 = 2\nlist B, else as A\n  60 = 3\n",
+        "list A, else lowest\n  3 = 2000\n  4 = 5\nlist B of 67 data, else as A\n  66 = 9\n",
+        "list A of 67 data, else lowest\n  3 = 2000\n  4 = 7\n  5 = 8\n  66 = 9\nlist B of 51 data, else as A\n  3 = 1\n",
+        "list A of 67 data, else lowest, head 0x10000033\n  0 = 12\nlist B of 67 data, else lowest, no head\n",
+        "list A of 67 data, else lowest, head 0x10000044\nlist B, else lowest\n  0 = 9\n",
+        "list A of 67 data, else lowest\n  50 = 1\n  cut\nlist B, else lowest\n  0 = 9\n",
+    ] {
+        assert_eq!(both_ways(&bytes(text)), text);
+    }
+    assert_eq!(
+        bytes("list A of 67 data\n3 = 9\nlist B else as A of 51 data"),
+        bytes("list A of 67 data\n3 = 9\nlist B of 51 data\n3 = 9")
+    );
+    assert_eq!(
+        bytes("list A\nlist B of 67 data, else as A"),
+        bytes("list A\nlist B of 67 data")
+    );
+    assert_eq!(bytes("list A of 52 data").len(), 4 * (1 + 3 * 52));
+    assert_eq!(bytes("both 0 SG1 gear 5"), bytes("both 0 SG1 bit 8 bit 10"));
+}
+
+#[test]
 fn many_ways_to_say_the_same() {
     let plain = bytes("lists A and B\n0 = 12\n3 = 2000\nlog\nboth 5 SG2");
     for text in [
@@ -117,6 +142,24 @@ fn faults_come_with_line_and_reason() {
             2,
             "'51' is not a datum's number from 0 to 50",
         ),
+        (
+            "list A of 67 data\n67 = 1",
+            2,
+            "'67' is not a datum's number from 0 to 66",
+        ),
+        (
+            "list A of 68 data",
+            1,
+            "'68' is not a number of data from 1 to 67",
+        ),
+        ("list A of 67 words", 1, "'data' is wanted, not 'words'"),
+        ("list A of data", 1, "'data' is not a number of data"),
+        (
+            "both 5 SBH gear 8",
+            1,
+            "'8' is not a gear's number from 0 to 7",
+        ),
+        ("both 5 SBH gear 1 gear 1", 1, "the gear is given twice"),
         ("list A\n3 = 1\n3 = 2", 3, "datum 3 comes after datum 3"),
         ("list A\n3 = 1\n2 = 2", 3, "datum 2 comes after datum 3"),
         ("list A\n3 1", 2, "'=' is wanted, not '1'"),

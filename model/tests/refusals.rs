@@ -12,13 +12,18 @@ fn place(number: usize) -> usize {
 
 /// A kit with this text in list A, and one with it in list B, are refused so.
 fn refused(text: &str, number: u32, place: usize) {
-    let in_a = format!("list A\n{text}\nlist B\nlog\nboth 0 SBH");
+    refused_of("", text, number, place);
+}
+
+/// [`refused`], with lists that say how many data they have.
+fn refused_of(of: &str, text: &str, number: u32, place: usize) {
+    let in_a = format!("list A{of}\n{text}\nlist B{of}\nlog\nboth 0 SBH");
     assert_eq!(
         list(&in_a),
         format!("refused {number} {place} A\n"),
         "{text}"
     );
-    let in_b = format!("list A\nlist B\n{text}\nlog\nboth 0 SBH");
+    let in_b = format!("list A{of}\nlist B{of}\n{text}\nlog\nboth 0 SBH");
     assert_eq!(
         list(&in_b),
         format!("refused {number} {place} B\n"),
@@ -124,7 +129,8 @@ fn numbers_2_3_4_at_the_datums_own_place() {
 
 #[test]
 fn every_range_end_is_taken_and_one_beyond_is_not() {
-    for number in 0..51 {
+    for number in 0..67 {
+        let of = if number < 51 { "" } else { " of 67 data" };
         let (low, high) = model::machine_data::range(number);
         for value in [low, high] {
             let other_end = match number {
@@ -132,11 +138,12 @@ fn every_range_end_is_taken_and_one_beyond_is_not() {
                 12 | 14 if value == low => continue,
                 _ => "",
             };
-            let text = format!("lists A and B\n{number} = {value}\n{other_end}");
+            let text = format!("lists A and B{of}\n{number} = {value}\n{other_end}");
             assert_eq!(list(&text), "", "{text}");
         }
-        refused(&format!("{number} = {}", low - 1), 4, place(number));
-        refused(&format!("{number} = {}", high + 1), 4, place(number));
+        for value in [low - 1, high + 1] {
+            refused_of(of, &format!("{number} = {value}"), 4, place(number));
+        }
     }
     assert_eq!(list("lists A and B, else highest"), "");
 }

@@ -5,7 +5,7 @@ use common::beside;
 use model::channel::image::{word, Lent};
 use model::list::Refusal;
 use model::script::{self, Board, Call, Cycle, Model, Script};
-use model::MachineData;
+use model::{log, MachineData};
 use std::fs;
 
 fn scripts() -> Vec<Script> {
@@ -100,12 +100,20 @@ impl<const N: u32> Board for Wrong<N> {
     }
 
     fn list(channel: &mut Lent, words: &[u32]) -> Result<usize, Refusal> {
+        let before = channel.clone();
         let answer = Model::list(channel, words);
         match N {
             // A refused list leaves no channel.
             1 if answer.is_err() => *channel = Model::none(),
             // All the words are the list's.
             2 => return answer.map(|_| words.len()),
+            // A shorter list leaves the data behind its own.
+            46 if answer.is_ok() => {
+                let mut data = *channel.data();
+                let head = channel.channel().data().head();
+                data[head..].copy_from_slice(&before.data()[head..]);
+                *channel = Lent::of(data, *channel.state());
+            }
             _ => (),
         }
         answer
@@ -118,6 +126,8 @@ impl<const N: u32> Board for Wrong<N> {
             3 => report[2] = channel.data()[0] as u32,
             4 => report[1] &= 0xf03c_101b,
             5 => report[0] = ((report[0] << 4) as i32 >> 4) as u32,
+            // The head is always 51.
+            41 => report[3] = 51,
             _ => (),
         }
         report
@@ -138,6 +148,13 @@ impl<const N: u32> Board for Wrong<N> {
             6 => acknowledged & 1,
             _ => acknowledged,
         };
+        match N {
+            // Heads, or the bits of a gear, are not compared; a head by its lowest 8 bits.
+            42 => report[3] = old[word::COUNT],
+            43 => report[3] = old[word::COUNT] & !0xff | report[3] & 0xff,
+            45 => report[1] = report[1] & !0x700 | inputs & 0x700,
+            _ => (),
+        }
         // A distance that 32 bits do not hold with a sign is none.
         if N == 29 && far {
             report[0] = position as u32;
@@ -182,6 +199,8 @@ impl<const N: u32> Board for Wrong<N> {
             }
             // k stops at 50.
             36 if old[word::K] == 50 => set(channel, word::K, 50),
+            // k follows 50 by 0 whatever the head says.
+            44 if old[word::K] == 50 => set(channel, word::K, 0),
             _ => (),
         }
         cycle
@@ -204,6 +223,9 @@ impl<const N: u32> Board for Wrong<N> {
     ) -> Result<usize, Refusal> {
         let before = (a.clone(), b.clone());
         let room = output.len();
+        if N == 47 {
+            return log_by_own_heads(a, b, words, output);
+        }
         match N {
             // A log begins with new channels, or forgets the previous positions, or has one k for both.
             37 => (renew(a), renew(b)),
@@ -269,13 +291,36 @@ impl<const N: u32> Board for Wrong<N> {
     }
 }
 
+/// A log run in which each channel gets its own head as the other's.
+fn log_by_own_heads(
+    a: &mut Lent,
+    b: &mut Lent,
+    words: &[u32],
+    output: &mut [u32],
+) -> Result<usize, Refusal> {
+    let ran = Model::log(&mut a.clone(), &mut b.clone(), words, output)?;
+    for (record, three) in log::records(words).zip(output.chunks_exact_mut(3)) {
+        let mut from_a = Model::report(a, record.a.position, record.a.inputs);
+        let mut from_b = Model::report(b, record.b.position, record.b.inputs);
+        (from_a[3], from_b[3]) = (from_b[3], from_a[3]);
+        let acknowledged = record.acknowledged.into();
+        let cycle = |channel: &mut Lent, side: log::Side, report: &[u32; 4]| {
+            Model::cycle(channel, side.position, side.inputs, acknowledged, report).word
+        };
+        three[0] = cycle(a, record.a, &from_b);
+        three[1] = cycle(b, record.b, &from_a);
+        three[2] = Model::device(three[0], three[1]);
+    }
+    Ok(ran)
+}
+
 /// The wrong boards that no script tells.
 fn untold(scripts: &[Script]) -> Vec<u32> {
     macro_rules! of {
         ($($n:literal)*) => { [$(($n, told::<Wrong<$n>>(scripts).len())),*] };
     }
     let told = of!(0 1 2 3 4 5 6 7 8 9 10 11 12 13 14 15 16 17 18 19 20 21 22 23 24 25 26 27 28 29
-        30 31 32 33 34 35 36 37 38 39 40);
+        30 31 32 33 34 35 36 37 38 39 40 41 42 43 44 45 46 47);
     assert_eq!(told[0], (0, 0));
     let untold = told[1..].iter().filter(|(_, scripts)| *scripts == 0);
     untold.map(|(board, _)| *board).collect()
@@ -307,6 +352,14 @@ fn each_wrong_answer_is_told() {
         (
             "list X -> accepted 154\nreport X 5 SG1 -> 5 SG1 datum 2",
             "line 3: expected 5 SG1 datum 2; found 5 SG1 datum 1",
+        ),
+        (
+            "list X of 67 data -> accepted 202\nreport X 5 SG1 -> 5 SG1 datum 1",
+            "line 3: expected 5 SG1 datum 1; found 5 SG1 datum 1 head 67",
+        ),
+        (
+            "list X -> accepted 154\nreport X 5 SG1 gear 2 -> 5 SG1 datum 1 head 50",
+            "line 3: expected 5 SG1 datum 1 head 50; found 5 SG1 gear 2 datum 1",
         ),
         (
             "list X -> accepted 154\ncycle X 0 off, report 1 off datum 2 -> 15000084 causes 10 13",
@@ -378,6 +431,14 @@ fn a_text_that_is_no_script_is_refused() {
         (
             "list X -> accepted 154\n\n  51 = 1",
             "line 4: '51' is not a datum's number from 0 to 50",
+        ),
+        (
+            "list X of 67 data -> accepted 202\n  67 = 1",
+            "line 3: '67' is not a datum's number from 0 to 66",
+        ),
+        (
+            "list X of 68 data -> accepted 205",
+            "line 2: '68' is not a number of data from 1 to 67",
         ),
         (
             "list X -> accepted 154\n  0 = 1 -> 1",

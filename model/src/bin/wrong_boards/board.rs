@@ -17,11 +17,12 @@ use std::process::{Command, ExitStatus, Stdio};
 use std::time::{Duration, Instant};
 
 /// The modules of a board: what a listing is made by.
-pub const MODULES: [&str; 11] = [
+pub const MODULES: [&str; 12] = [
     "words",
     "whole",
     "machine_data",
     "list",
+    "gear",
     "stop",
     "selection",
     "causes",

@@ -34,8 +34,8 @@ static size_t make(uint32_t call, const uint32_t *in, size_t n, uint32_t *answer
         return 2;
     case 2: /* report: channel, position, inputs */
         monitor_report(x->data, x->state, (int32_t)in[1], in[2], answer);
-        return 3;
-    case 3: /* cycle: channel, position, inputs, acknowledged, the report's three words */
+        return MONITOR_REPORT;
+    case 3: /* cycle: channel, position, inputs, acknowledged, the report's four words */
         memset(causes, 255, sizeof causes);
         answer[length++] = monitor_cycle(x->data, x->state, (int32_t)in[1], in[2], in[3], in + 4, causes);
         for (code = 1; code < 256; code++) /* in order; 0 for a code that stands behind a 0 */

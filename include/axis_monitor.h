@@ -6,12 +6,12 @@
 #include <stddef.h>
 #include <stdint.h>
 
-#define MONITOR_INTERFACE 1 /* the number of this interface, which monitor_interface() must answer */
+#define MONITOR_INTERFACE 2 /* the number of this interface, which monitor_interface() must answer */
 
 /* How long the lent arrays are. */
-#define MONITOR_DATA 51   /* machine data of a channel, by their numbers */
+#define MONITOR_DATA 67   /* machine data of a channel, by their numbers; a shorter list leaves the places behind its data 0 */
 #define MONITOR_STATE 17  /* words of a channel's state */
-#define MONITOR_REPORT 3  /* words of a report */
+#define MONITOR_REPORT 4  /* words of a report */
 #define MONITOR_CODES 13  /* cause codes of a cycle */
 #define MONITOR_TOLD 3    /* numbers that tell a kit's refusal */
 #define MONITOR_LOG 16384 /* most words of a log */
@@ -25,7 +25,7 @@ typedef struct monitor_channel {
 } monitor_channel;
 
 /* Words of a state; signed numbers stand in two's complement. */
-#define MONITOR_STATE_COUNT 0         /* how many data the list has; 0: no list */
+#define MONITOR_STATE_COUNT 0         /* how many data the list has, 51 or 67; 0: no list */
 #define MONITOR_STATE_K 1             /* number of the datum that it reports next */
 #define MONITOR_STATE_HAS_PREVIOUS 2  /* 1 if there is a previous position */
 #define MONITOR_STATE_PREVIOUS 3      /* the previous position, signed */
@@ -55,6 +55,7 @@ typedef struct monitor_channel {
 #define MONITOR_REPORT_POSITION 0 /* the position, signed */
 #define MONITOR_REPORT_INPUTS 1   /* the whole input word */
 #define MONITOR_REPORT_DATUM 2    /* datum k, signed */
+#define MONITOR_REPORT_HEAD 3     /* how many data the list has */
 
 /* Bits of an input word. */
 #define MONITOR_IN_SBH_SG_OFF 0x00000001u /* SBH/SG de-selected */
@@ -68,7 +69,9 @@ typedef struct monitor_channel {
 #define MONITOR_IN_STOP_E_OFF 0x00200000u /* external STOP E de-selected */
 #define MONITOR_IN_OVERRIDE 0xf0000000u   /* override number */
 #define MONITOR_IN_OVERRIDE_AT 28         /* its lowest bit */
-#define MONITOR_IN_BITS 0xf03c101bu       /* all of these; every other bit must be 0 */
+#define MONITOR_IN_BITS 0xf03c101bu       /* all of these */
+#define MONITOR_IN_GEAR 0x00000700u       /* number of the gear ratio; must be 0 with a list of 51 data */
+#define MONITOR_IN_GEAR_AT 8              /* its lowest bit; every bit that is not named must be 0 */
 
 /* Bits of a channel word. */
 #define MONITOR_WORD_EFFECTIVE 0x00000001u /* SBH or SG effective */
@@ -109,7 +112,7 @@ typedef struct monitor_channel {
 #define MONITOR_CAUSE_HOLD 9      /* a hold was left */
 #define MONITOR_CAUSE_POSITION 10 /* position differs from the report */
 #define MONITOR_CAUSE_INPUTS 11   /* input words differ for too long */
-#define MONITOR_CAUSE_DATUM 12    /* datum k differs */
+#define MONITOR_CAUSE_DATUM 12    /* datum k or the number of data differs */
 #define MONITOR_CAUSE_F 13        /* F's time is over */
 
 /* Answers of monitor_read_list and monitor_run_log, and told[0] of monitor_run_kit. */
@@ -122,7 +125,9 @@ typedef struct monitor_channel {
 #define MONITOR_REFUSED_LOG 6    /* log too long, or a word missing or wrong */
 #define MONITOR_REFUSED_OUTPUT 7 /* output below 3 words a cycle */
 
-#define MONITOR_DATUM_T 0 /* number of the datum T, the cycle in ms */
+#define MONITOR_DATUM_T 0            /* number of the datum T, the cycle in ms */
+#define MONITOR_DATUM_NUMERATOR 51   /* number of the first gear ratio's numerator; the others follow it */
+#define MONITOR_DATUM_DENOMINATOR 59 /* number of its denominator */
 
 #ifdef __cplusplus
 #define MONITOR_HOLDS(fact) static_assert(fact, #fact)
@@ -134,8 +139,8 @@ extern "C" {
 #ifndef MONITOR_OWN_BOARD /* a fact of the archives, not of a board that is tried with this header */
 MONITOR_HOLDS(sizeof(size_t) == 8);
 #endif
-MONITOR_HOLDS(sizeof(monitor_channel) == 272);
-MONITOR_HOLDS(offsetof(monitor_channel, state) == 204);
+MONITOR_HOLDS(sizeof(monitor_channel) == 336);
+MONITOR_HOLDS(offsetof(monitor_channel, state) == 268);
 
 /* The number of the library's interface. */
 uint32_t monitor_interface(void);

@@ -3,9 +3,11 @@
 #![cfg(feature = "proved")]
 
 mod common;
-use common::{beside, bytes, data};
+use common::{beside, bytes, data, data_of};
 use model::channel::image::{self, Image, Lent};
 use model::channel::{self, Report};
+use model::gear::GEAR_BITS;
+use model::machine_data::{number, COUNT, HEADS};
 use model::proved::{self, archive, Channel};
 use model::random::{self, Call, Channels};
 use model::{causes, device, list, listing, log, words, MachineData, Refusal};
@@ -31,12 +33,16 @@ fn run(program: &str, arguments: &[&str]) -> String {
 fn facts() -> String {
     let mut facts = vec![
         format!("MONITOR_INTERFACE == {}", proved::interface()),
-        format!("MONITOR_DATA == {}", MachineData::lowest().data().len()),
+        format!("MONITOR_DATA == {COUNT}"),
+        format!("MONITOR_DATUM_NUMERATOR == {}", number::NUMERATOR),
+        format!("MONITOR_DATUM_DENOMINATOR == {}", number::DENOMINATOR),
+        "MONITOR_REPORT == 4 && MONITOR_REPORT_HEAD == 3".into(),
         format!("MONITOR_STATE == {}", image::WORDS),
         format!("MONITOR_CODES == {}", causes::Causes::MOST),
         format!("MONITOR_LOG == {}", log::LONGEST),
         format!("MONITOR_KIT == {}", listing::LARGEST),
         format!("MONITOR_IN_BITS == {}u", channel::INPUT_BITS),
+        format!("MONITOR_IN_GEAR == {GEAR_BITS}u"),
         format!("sizeof(monitor_channel) == {}", size_of::<Channel>()),
     ];
     let states = [
@@ -190,7 +196,7 @@ struct Pair {
 
 impl Pair {
     fn fresh(data: MachineData) -> Pair {
-        let mut words = vec![words::head()];
+        let mut words = vec![words::head(data.head())];
         for (number, &value) in data.data().iter().enumerate() {
             let pieces = [value as u32 >> 16, value as u32].map(words::piece);
             words.extend([words::datum(number, 0), pieces[0], pieces[1]]);
@@ -487,7 +493,7 @@ fn stack_of_call(channels: &mut Channels, call: &Call) -> (&'static str, usize) 
                 inputs,
             } => {
                 let (data, state) = content(of);
-                let mut report = [0_u32; 3];
+                let mut report = [0_u32; 4];
                 let lent = [&raw const data as u64, &raw const state as u64];
                 let (position, report) = (position as u64, &raw mut report as u64);
                 let arguments = [lent[0], lent[1], position, inputs.into(), report];
@@ -643,10 +649,106 @@ fn each_call_keeps_to_its_stack() {
     }
 }
 
-/// The state's words are those that the header says, in their order.
+/// The state's words are those that the header says, in their order; a shorter list leaves the places behind its data 0.
 #[test]
-fn a_fresh_channel_has_51_data_and_else_0() {
+fn a_fresh_channel_has_its_data_and_else_0() {
     let mut fresh: Image = [0; image::WORDS];
-    fresh[image::word::COUNT] = 51;
-    assert_eq!(Pair::fresh(example()).proved.state, fresh);
+    for head in HEADS {
+        let channel = Pair::fresh(MachineData::lowest(head)).proved;
+        fresh[image::word::COUNT] = head as u32;
+        assert_eq!(channel.state, fresh);
+        assert!(channel.data[head..].iter().all(|&datum| datum == 0));
+    }
+}
+
+#[test]
+fn speeds_by_the_ratio_of_the_cycle() {
+    // Gear 3 is 3 to 7: 933 passes, 934 does not.
+    let stated = [
+        (0, 12),
+        (1, 9),
+        (3, 2000),
+        (7, 3),
+        (25, 600),
+        (54, 3),
+        (62, 7),
+    ];
+    let mut channel = Pair::fresh(data_of(COUNT, &stated));
+    for (position, inputs, codes) in [
+        (0, 0x302, &[][..]),
+        (933, 0x302, &[]),
+        (1867, 0x302, &[3]),
+        (2267, 2, &[]),
+        (2668, 2, &[3]),
+        (2668, 0x802, &[1]),
+    ] {
+        let report = channel.report(position, inputs);
+        assert_eq!(report.head, COUNT);
+        assert_eq!(
+            channel.cycle(position, inputs, report).1,
+            codes,
+            "{position}"
+        );
+    }
+    let mut short = Pair::fresh(data(&stated[..5]));
+    for gear in [0x100, 0x200, 0x400] {
+        let report = short.report(0, gear | 1);
+        assert_eq!(short.cycle(0, gear | 1, report).1, [1]);
+    }
+}
+
+#[test]
+fn a_report_of_another_head() {
+    for (own, other) in [
+        (51, 67),
+        (67, 51),
+        (67, 66),
+        (51, 0),
+        (67, 1 << 31),
+        (51, 307),
+    ] {
+        let mut channel = Pair::fresh(data_of(own, &[(0, 12), (34, 9)]));
+        let right = channel.report(0, 1);
+        let wrong = Report {
+            head: other,
+            ..right
+        };
+        assert_eq!(channel.cycle(0, 1, right).1, [0; 0], "{own}");
+        let right = channel.report(0, 1);
+        assert_eq!(
+            channel.cycle(0, 1, Report { ..wrong }).1,
+            [12],
+            "{own} {other}"
+        );
+        assert_eq!(right.head, own);
+    }
+}
+
+/// What no list brings: ratios outside their range, and any count.
+#[test]
+fn ratios_and_counts_of_any_content() {
+    let fresh = Pair::fresh(data_of(
+        COUNT,
+        &[(0, 12), (1, 9), (3, 2000), (7, 3), (25, 600)],
+    ));
+    for ratio in [0, -1, 1, 500, 1000, 1001, 5000, i32::MIN, i32::MAX] {
+        for other in [0, 1, 7, 1000, 5000] {
+            for count in [0, 1, 50, 51, 52, 66, 67, 68, 300, u32::MAX] {
+                for k in [0, 50, 51, 65, 66, 67, 254, 255, 256] {
+                    let (mut data, mut state) = (fresh.proved.data, fresh.proved.state);
+                    (data[53], data[61]) = (ratio, other);
+                    state[image::word::COUNT] = count;
+                    state[image::word::K] = k;
+                    let mut pair = Pair {
+                        model: Lent::of(data, state),
+                        proved: Channel { data, state },
+                    };
+                    for (position, inputs) in [(0, 2), (2, 0x202), (402, 0x202), (1000, 2)] {
+                        let report = pair.report(position, inputs);
+                        pair.cycle(position, inputs, report);
+                    }
+                }
+            }
+        }
+    }
 }

@@ -184,6 +184,27 @@ fn lanes_in_which_nothing_happens_are_left_out() {
     );
 }
 
+#[test]
+fn speeds_are_those_of_the_load() {
+    let text = "lists A and B of 67 data\n 0 = 12\n 1 = 1\n 3 = 2000\n 54 = 3\n 62 = 7\nboth 0 SG1\nboth 934 SG1 gear 3";
+    let expected = ["position", "speed, A and B", "gear, A and B"];
+    assert_eq!(lanes(text)[..3], expected);
+    let picture = of_bytes(&bytes(text), Range::default());
+    for shown in [">2001.43<", ">|d| × ratio<", ">0: 1 to 1<", ">3: 3 to 7<"] {
+        assert!(picture.contains(shown), "{shown}: {picture}");
+    }
+    let without = text.replace(" gear 3", "");
+    assert_eq!(
+        lanes(&without)[..3],
+        ["position", "speed, A and B", "selection, A and B"]
+    );
+    let picture = of_bytes(&bytes(&without), Range::default());
+    assert!(
+        picture.contains(">4670<") && picture.contains(">|d|<"),
+        "{picture}"
+    );
+}
+
 /// The `kit` command.
 fn kit(arguments: &[&str], folder: &Path) -> Output {
     Command::new(env!("CARGO_BIN_EXE_kit"))

@@ -50,6 +50,7 @@ fn tables(rounds: usize) -> Result<String, String> {
     text += &head_of_calls();
     for (name, pattern) in [
         ("quiet SG", QUIET),
+        ("gears", GEARS),
         ("stops, F and acknowledgements", STOPS),
     ] {
         text += &Calls::new(pattern)?.row(name, rounds)?;
@@ -267,7 +268,7 @@ struct Calls {
     words: Vec<u32>,
     records: Vec<Record>,
     /// B's reports to A.
-    reports: Vec<[u32; 3]>,
+    reports: Vec<[u32; 4]>,
     output: Vec<u32>,
 }
 
@@ -289,7 +290,7 @@ impl Calls {
             lists,
             records: log::records(&words).collect(),
             words,
-            reports: vec![[0; 3]; Calls::CYCLES],
+            reports: vec![[0; 4]; Calls::CYCLES],
             output: vec![0; 3 * Calls::CYCLES],
         })
     }
@@ -304,7 +305,7 @@ impl Calls {
 
     /// A device cycle: both reports, both channels, the device word.
     #[inline(always)]
-    fn device_cycle(channels: &mut [Channel; 2], record: &Record) -> ([u32; 3], [u32; 3]) {
+    fn device_cycle(channels: &mut [Channel; 2], record: &Record) -> ([u32; 3], [u32; 4]) {
         let Record { a, b, acknowledged } = *record;
         let from_a = channels[0].report(a.position, a.inputs);
         let from_b = channels[1].report(b.position, b.inputs);
@@ -428,8 +429,9 @@ type Kit = Result<Vec<u8>, String>;
 /// A log's name, and its kit with so many cycles.
 type Log = (&'static str, fn(usize) -> Kit);
 
-const LOGS: [Log; 5] = [
+const LOGS: [Log; 6] = [
     ("quiet SG", |cycles| log(QUIET, cycles)),
+    ("gears", |cycles| log(GEARS, cycles)),
     ("stops, F and acknowledgements", |cycles| log(STOPS, cycles)),
     ("unusable", |cycles| log(UNUSABLE, cycles)),
     ("cams", |cycles| log(CAMS, cycles)),
@@ -437,10 +439,11 @@ const LOGS: [Log; 5] = [
 ];
 
 /// A seed whose kit has every function on, and whose log comes to every rank.
-const CHANCE: u64 = 12_874;
+const CHANCE: u64 = 20_745;
 
-const LISTS: [(&str, &str); 2] = [
+const LISTS: [(&str, &str); 3] = [
     ("whole numbers", "lists A and B"),
+    ("whole numbers, 67 data", "lists A and B of 67 data"),
     (
         "binary64",
         "lists A and B
@@ -464,6 +467,32 @@ const QUIET: Pattern = (
       3 = 2000
       7 = 3",
     &["both 0 SG1", "both 200 SG1", "both 400 SG1", "both 200 SG1"],
+);
+
+/// SG and n<nx by ratios that do not divide, another one in each cycle.
+const GEARS: Pattern = (
+    "lists A and B of 67 data
+      0 = 12
+      1 = 9
+      2 = 10
+      3 = 2000
+      7 = 3
+      25 = 600
+      52 = 3
+      53 = 7
+      54 = 999
+      59 = 2
+      60 = 7
+      61 = 3
+      62 = 1000",
+    &[
+        "both 0 SG1 gear 0",
+        "both 700 SG1 gear 1",
+        "both 570 SG1 gear 2",
+        "both 370 SG1 gear 3",
+        "both 300 SG1 gear 1",
+        "both 350 SG1 gear 2",
+    ],
 );
 
 const STOPS: Pattern = (

@@ -1,6 +1,6 @@
 //! The lanes of a picture: which there are, and what each shows.
 
-use super::trace::{Channelled, Seen};
+use super::trace::{Channelled, Gear, Seen};
 use crate::machine_data::{number, MachineData};
 use crate::selection::Selection;
 use crate::stop::Rank;
@@ -74,7 +74,7 @@ pub fn of(seen: &[Seen]) -> Vec<Lane> {
     let b: Vec<&Channelled> = seen.iter().map(|seen| &seen.b).collect();
     let mut lanes = Vec::new();
     lanes.extend(position(&a, &b));
-    for of_channel in [speed, selection, causes, f, stop] {
+    for of_channel in [speed, gear, selection, causes, f, stop] {
         lanes.extend(both(of_channel, &a, &b));
     }
     lanes.extend(acknowledgement(seen, &a, &b));
@@ -247,7 +247,7 @@ fn cam(side: &Side) -> Option<Guide> {
     })
 }
 
-/// The speed |d| and the limit in force.
+/// The speed |d|, times the ratio where there is one, and the limit in force.
 fn speed(side: &Side) -> Option<Lane> {
     let speeds = each(side, |cycle| cycle.d.map(|d| hundredths(cycle, d)));
     let limits = each(side, limit);
@@ -265,13 +265,48 @@ fn speed(side: &Side) -> Option<Lane> {
         true => lane.with(Style::Broad, "limit in force", [limits]),
         false => lane,
     };
-    Some(lane.with(Style::Plain, "|d|", [speeds]))
+    let name = match geared(side) {
+        true => "|d| × ratio",
+        false => "|d|",
+    };
+    Some(lane.with(Style::Plain, name, [speeds]))
 }
 
-/// |d| in T as hundredths of mm/min, for the eye only: the model compares without dividing.
+/// Whether some cycle has a ratio other than 1 to 1.
+fn geared(side: &Side) -> bool {
+    let gears = side.iter().filter_map(|cycle| cycle.gear);
+    gears
+        .into_iter()
+        .any(|gear| gear.numerator != gear.denominator)
+}
+
+/// |d| times the ratio in T as hundredths of mm/min, for the eye only: the model compares without
+/// dividing.
 fn hundredths(cycle: &Channelled, d: i64) -> i64 {
     let t = i64::from(cycle.after.data().get(number::T)).max(1);
-    (d.abs() * 6000 + t / 2) / t
+    let (numerator, denominator) = cycle
+        .gear
+        .map_or((1, 1), |gear| (gear.numerator, gear.denominator));
+    let t = t * denominator;
+    (d.abs() * numerator * 6000 + t / 2) / t
+}
+
+/// The gears, each with its ratio; none where all are 1 to 1.
+fn gear(side: &Side) -> Option<Lane> {
+    let mut gears: Vec<Gear> = side.iter().filter_map(|cycle| cycle.gear).collect();
+    gears.sort_unstable();
+    gears.dedup();
+    let row = |gear: Gear| {
+        let Gear {
+            number,
+            numerator,
+            denominator,
+        } = gear;
+        let engaged = each(side, |cycle| cycle.gear == Some(gear));
+        bars(&format!("{number}: {numerator} to {denominator}"), engaged)
+    };
+    let gears = gears.into_iter().filter_map(row).collect();
+    rows("gear", gears).filter(|_| geared(side))
 }
 
 /// Limit × percent of the effective SG, which is the limit in hundredths.
@@ -353,7 +388,7 @@ const CAUSES: [&str; 13] = [
     "hold left",
     "position",
     "inputs",
-    "datum k",
+    "datum k or head",
     "F's time",
 ];
 

@@ -2,8 +2,10 @@
 
 use crate::causes::Causes;
 use crate::channel::{Channel, Cycle};
+use crate::gear::{Ratio, GEAR_BITS};
 use crate::listing::{self, Refused};
 use crate::log::{self, Side};
+use crate::machine_data::MachineData;
 use crate::selection::Selection;
 use crate::{device, Paper};
 
@@ -23,6 +25,8 @@ pub struct Channelled {
     pub position: i32,
     /// "d = position less previous position", in a usable cycle.
     pub d: Option<i64>,
+    /// The gear that the inputs pick, in a usable cycle.
+    pub gear: Option<Gear>,
     /// What the inputs select, in a usable cycle.
     pub selected: Option<Selection>,
     /// The channel before the cycle and after it.
@@ -33,6 +37,25 @@ pub struct Channelled {
     pub word: u32,
     /// Acknowledged without a fresh cause.
     pub clears: bool,
+}
+
+/// A gear: its number, and its ratio.
+#[derive(Clone, Copy, Debug, PartialEq, Eq, PartialOrd, Ord)]
+pub struct Gear {
+    pub number: u32,
+    pub numerator: i64,
+    pub denominator: i64,
+}
+
+impl Gear {
+    fn of(data: &MachineData, inputs: u32) -> Gear {
+        let ratio = Ratio::of(Paper, data, inputs);
+        Gear {
+            number: (inputs & GEAR_BITS) >> 8,
+            numerator: ratio.step(Paper, 1),
+            denominator: ratio.bound(1),
+        }
+    }
 }
 
 /// All cycles of a kit, if it is accepted.
@@ -64,6 +87,7 @@ impl Channelled {
         Channelled {
             position: side.position,
             d: usable.then(|| before.previous().map_or(0, step)),
+            gear: usable.then(|| Gear::of(after.data(), side.inputs)),
             selected: usable.then(|| Selection::of(Paper, after.data(), side.inputs)),
             before,
             after,

@@ -24,13 +24,13 @@ pub fn bit(word: u32, number: u32) -> bool {
 /// "Inputs are unusable if one is not, or if the position lies outside ±100,000,000."
 #[inline]
 pub fn usable<R: Reading>(r: R, data: &MachineData, position: i32, inputs: u32) -> bool {
-    let free = free_bits(r, data);
-    let bits = paper!(r, free,
+    let bits = free_bits(r, data);
+    let bits = paper!(r, bits,
         OtherBitsIgnored => u32::MAX,
-        Bit2Ignored => free | 1 << 2,
-        Bits5To11Ignored => free | 0x7f << 5,
-        Bits13To17Ignored => free | 0x1f << 13,
-        Bits22To27Ignored => free | 0x3f << 22);
+        Bit2Ignored => bits | 1 << 2,
+        Bits5To11Ignored => bits | 0x7f << 5,
+        Bits13To17Ignored => bits | 0x1f << 13,
+        Bits22To27Ignored => bits | 0x3f << 22);
     let inside = paper!(r, position.unsigned_abs() <= FARTHEST,
         Position100000001Usable => position.unsigned_abs() <= FARTHEST + 1,
         Position100000000Unusable => position.unsigned_abs() < FARTHEST,
@@ -106,7 +106,7 @@ pub struct Channel {
     cams: [bool; 8],
     /// Of deviations only: the word to echo, and the ratio of a cycle before.
     echo: Option<u32>,
-    ratio: Option<Ratio>,
+    earlier: Option<Ratio>,
 }
 
 impl Channel {
@@ -127,7 +127,7 @@ impl Channel {
             run: Run(0),
             cams: paper!(r, [false; 8], CamsStartAt1 => [true; 8]),
             echo: None,
-            ratio: None,
+            earlier: None,
         }
     }
 
@@ -243,8 +243,8 @@ impl Channel {
             &mut self.f,
         );
         self.advance_stop(r, &causes, acknowledged, &moment);
-        let seen = paper!(r, position, CamsScaled => ratio.of_number(position.into()) as i32);
-        self.move_cams(r, seen);
+        paper!(r, self.move_cams(r, position),
+            CamsScaled => self.move_cams(r, ratio.of_number(position.into()) as i32));
         let word = self.word(r, moment.selected, inputs, Some(&moment));
         self.previous = Some(position);
         paper!(r, (), ClearForgetsPrevious => {
@@ -269,14 +269,14 @@ impl Channel {
         let ratio = Ratio::of(r, &self.data, inputs);
         paper!(r, (d, ratio),
         RatioOfReport => (d, Ratio::of(r, &self.data, report.inputs)),
-        RatioOfCycleBefore => (d, self.ratio.replace(ratio).unwrap_or(ratio)),
-        RatioOfFirstCycle => (d, *self.ratio.get_or_insert(ratio)),
+        RatioOfCycleBefore => (d, self.earlier.replace(ratio).unwrap_or(ratio)),
+        RatioOfFirstCycle => (d, *self.earlier.get_or_insert(ratio)),
         RatioTakenAtRest => {
-            if d == 0 || self.ratio.is_none() { self.ratio = Some(ratio) }
-            (d, self.ratio.unwrap_or(ratio))
+            if d == 0 || self.earlier.is_none() { self.earlier = Some(ratio) }
+            (d, self.earlier.unwrap_or(ratio))
         },
         StepOfScaledPositions => {
-            let before = self.ratio.replace(ratio).unwrap_or(ratio);
+            let before = self.earlier.replace(ratio).unwrap_or(ratio);
             let scaled = |previous: i32| ratio.of_number(position.into()) - before.of_number(previous.into());
             (self.previous.map_or(0, scaled), Ratio::ONE)
         })

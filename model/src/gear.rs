@@ -4,7 +4,7 @@ use crate::deviation::{paper, Reading};
 use crate::machine_data::{number, MachineData};
 
 /// W1: "Input bits 8 to 10 pick one of eight ratios"
-pub const GEAR_BITS: u32 = 0x0000_0700;
+pub const GEAR_BITS: u32 = 7 << 8;
 
 /// W1: "the step times numerator over denominator"
 #[derive(Clone, Copy, Debug, PartialEq, Eq)]

@@ -84,11 +84,10 @@ fn read_data<R: Reading>(r: R, words: &[u32]) -> Result<(MachineData, usize), Re
 
 /// "Kind 1: list head, value 51."; W1: "the list head then says 67": how many data follow.
 fn head<R: Reading>(r: R, words: &[u32]) -> Result<usize, Refusal> {
-    let head = words.first().and_then(|&word| words::head_of(r, word));
-    head.ok_or(Refusal {
-        number: 1,
-        place: 0,
-    })
+    match words.first().and_then(|&word| words::head_of(r, word)) {
+        Some(head) => Ok(head),
+        None => refuse(1, 0),
+    }
 }
 
 /// "per datum 1, 2, 3, 4": one datum's value, and the place behind it.

@@ -3,7 +3,7 @@
 use crate::causes::{self, Causes, Run, F};
 use crate::deviation::{paper, Paper, Reading};
 use crate::gear::{Ratio, GEAR_BITS};
-use crate::machine_data::{number, Function, MachineData, COUNT};
+use crate::machine_data::{number, Function, MachineData, COUNT, HEADS};
 use crate::selection::{Selection, Selections};
 use crate::stop::{Rank, Stop};
 
@@ -43,7 +43,7 @@ pub fn usable<R: Reading>(r: R, data: &MachineData, position: i32, inputs: u32) 
 /// "bits 8 to 10 being 0 as before"
 #[inline]
 fn free_bits<R: Reading>(r: R, data: &MachineData) -> u32 {
-    let gears = data.head() >= COUNT;
+    let gears = data.head() >= HEADS[1];
     let gears = paper!(r, gears,
         GearBitsUsableAt51 => true,
         GearBitsUnusableAt67 => false,

@@ -670,6 +670,7 @@ fn speeds_by_the_ratio_of_the_cycle() {
         (3, 2000),
         (7, 3),
         (25, 600),
+        (29, 9),
         (54, 3),
         (62, 7),
     ];
@@ -690,7 +691,7 @@ fn speeds_by_the_ratio_of_the_cycle() {
             "{position}"
         );
     }
-    let mut short = Pair::fresh(data(&stated[..5]));
+    let mut short = Pair::fresh(data(&stated[..6]));
     for gear in [0x100, 0x200, 0x400] {
         let report = short.report(0, gear | 1);
         assert_eq!(short.cycle(0, gear | 1, report).1, [1]);
@@ -699,7 +700,7 @@ fn speeds_by_the_ratio_of_the_cycle() {
 
 #[test]
 fn a_report_of_another_head() {
-    for (own, other) in [
+    for (own, head) in [
         (51, 67),
         (67, 51),
         (67, 66),
@@ -709,18 +710,16 @@ fn a_report_of_another_head() {
     ] {
         let mut channel = Pair::fresh(data_of(own, &[(0, 12), (34, 9)]));
         let right = channel.report(0, 1);
-        let wrong = Report {
-            head: other,
-            ..right
-        };
-        assert_eq!(channel.cycle(0, 1, right).1, [0; 0], "{own}");
+        assert_eq!(right.head, own);
+        assert_eq!(channel.cycle(0, 1, right).1, [0; 0]);
         let right = channel.report(0, 1);
         assert_eq!(
-            channel.cycle(0, 1, Report { ..wrong }).1,
+            channel.cycle(0, 1, Report { head, ..right }).1,
             [12],
-            "{own} {other}"
+            "{own} {head}"
         );
-        assert_eq!(right.head, own);
+        let right = channel.report(0, 1);
+        assert_eq!(channel.cycle(0, 1, right).1, [0; 0]);
     }
 }
 

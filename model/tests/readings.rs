@@ -1,5 +1,5 @@
-//! Where document 01 leaves a choice: the reading taken, by a kit and its listing worked out
-//! by hand, and that the kit tells the other reading apart.
+//! Where document 01 or a request leaves a choice: the reading taken, by a kit and its listing
+//! worked out by hand, and that the kit tells the other reading apart.
 
 mod common;
 use common::{bytes, data};
@@ -376,5 +376,134 @@ fn reports_in_a_log_go_by_both_ks_from_before_the_cycle() {
         "lists A and B; log; both 0 SBH",
         "1 00000080 00000080 1",
         &[BSeesNewK],
+    );
+}
+
+#[test]
+fn a_ratio_is_that_of_the_present_cycle() {
+    // Gear 1 is 2 to 1: 400 passes without it and 200 with it.
+    row(
+        "lists A and B of 67 data; 0 = 12; 1 = 1; 3 = 2000; 7 = 1; 31 = 9; 52 = 2; log
+         both 0 SG1; both 200 SG1 gear 1; both 600 SG1; both 801 SG1 gear 1",
+        "1 00000081 00000081 1
+         2 00000081 00000081 1
+         3 00000081 00000081 1
+         4 01000081 01000081 3",
+        &[
+            RatioOfCycleBefore,
+            RatioOfFirstCycle,
+            RatioTakenAtRest,
+            GearFixed,
+        ],
+    );
+}
+
+#[test]
+fn a_ratio_does_not_wait_with_a_selection() {
+    row(
+        "lists A and B of 67 data; 0 = 12; 1 = 1; 3 = 2000; 7 = 1; 27 = 3; 31 = 9; 52 = 2; log
+         both 0 SG1; both 201 SG2 gear 1",
+        "1 00000081 00000081 1
+         2 01000081 01000081 3",
+        &[RatioWaits],
+    );
+}
+
+#[test]
+fn selections_are_ordered_without_the_ratio() {
+    row(
+        "lists A and B of 67 data; 1 = 1; 3 = 2000; 5 = 3000; 27 = 3; 52 = 10; log
+         both 0 SG1; both 0 SG3 gear 1",
+        "1 00000081 00000081 1
+         2 00100081 00100081 1",
+        &[OrderScaled],
+    );
+}
+
+#[test]
+fn gear_bits_go_by_the_head_alone() {
+    row(
+        "lists A and B; log; both 0 off gear 1",
+        "1 05000084 05000084 a",
+        &[GearBitsUsableAt51],
+    );
+    row(
+        "lists A and B of 67 data; log; both 0 off gear 7",
+        "1 00000080 00000080 1",
+        &[GearBitsUnusableAt67, GearNeedsSbhSg, FourRatios],
+    );
+}
+
+#[test]
+fn heads_are_51_and_67() {
+    row(
+        "list A of 60 data; list B",
+        "refused 1 0 A",
+        &[HeadsBetweenTaken],
+    );
+    row(
+        "list A of 67 data, head 0x10000045; list B",
+        "refused 1 0 A",
+        &[HeadsAboveTaken],
+    );
+    row(
+        "list A of 67 data, head 0x10000033; list B",
+        "refused 1 0 B",
+        &[DataBehindHeadTaken],
+    );
+    row(
+        "list A, head 0x10000043; list B",
+        "refused 1 154 A",
+        &[ListMayEndAt51],
+    );
+}
+
+#[test]
+fn number_5_waits_for_the_ratios_too() {
+    row(
+        "list A of 67 data; 11 = 5; 12 = 5; 66 = 0; list B",
+        "refused 4 199 A",
+        &[SeEndsBeforeRatios],
+    );
+}
+
+#[test]
+fn unlike_heads_are_cause_12_in_every_cycle_of_both() {
+    row(
+        "list A; 34 = 1000; list B of 67 data, else as A; log; both 0 off; both 0 off ack",
+        "1 10000080 10000080 1
+         2 10000080 10000080 1",
+        &[
+            HeadNotCompared,
+            HeadAtK0Only,
+            HeadOfLongerOnly,
+            HeadOfShorterOnly,
+            HeadWithoutF,
+            UnlikeHeadsRefused,
+        ],
+    );
+}
+
+#[test]
+fn k_runs_over_as_many_data_as_the_list_has() {
+    let cycles: String = (1..=67)
+        .map(|cycle| {
+            let word = if cycle == 67 { "10000080" } else { "00000080" };
+            format!("{cycle} {word} {word} 1\n")
+        })
+        .collect();
+    row(
+        "list A of 67 data; 34 = 1000; list B, else as A; 66 = 2; log; both 0 off times 67",
+        &cycles,
+        &[KOnlyTo50, KOnlyTo65],
+    );
+}
+
+#[test]
+fn gear_bits_are_compared_as_they_are() {
+    row(
+        "lists A and B of 67 data; 34 = 1000; log; A 0 off gear 1, B 0 off gear 2",
+        "1 10000080 10000080 1",
+        &[GearNotCompared, GearComparedByRatio],
     );
 }

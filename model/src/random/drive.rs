@@ -3,7 +3,7 @@
 use super::Xorshift;
 use crate::channel::{bit, Channel};
 use crate::gear::GEAR_BITS;
-use crate::machine_data::{number, Function, MachineData, COUNT};
+use crate::machine_data::{number, Function, MachineData, HEADS};
 use crate::selection::Selection;
 use crate::stop::Rank;
 use crate::{words, Paper};
@@ -270,7 +270,7 @@ impl<'a> Driver<'a> {
 
     /// The bits of a ratio's number, 0 where a list has none.
     fn gear(&mut self) -> u32 {
-        let [a, b] = [&self.a, &self.b].map(|channel| channel.data().head() >= COUNT);
+        let [a, b] = [&self.a, &self.b].map(|channel| channel.data().head() >= HEADS[1]);
         let gear = (self.random.below(8) as u32) << 8;
         if a && b || (a || b) && self.random.percent(50) {
             gear

@@ -20,8 +20,8 @@ use Rattle.log.specs.declared.LogRun.{LogRun}
 use Rattle.log.specs.declared.LogAnswer.{LogAnswer}
 use Rattle.log.specs.declared.LogAnswer.the-variants.{Accepted, Refused}
 use Rattle.log.specs.Run.{Ran, refusing, running, byRecords, ranOf}
-use Rattle.log.specs.Ensures.{LogEnsures}
-use Rattle.image.specs.Image.{countFrom, stateWords, channelFrom}
+use Rattle.log.specs.Ensures.{LogEnsures, beside}
+use Rattle.image.specs.Image.{countFrom, stateFrom, stateWords, channelFrom}
 use Rattle.image.specs.Ensures.{WordsEnsures}
 use Rattle.axis_logs.specs.Crossing.{logNumber, logPlace, logLeft}
 use Rattle.axis_logs.specs.Ensures.{ranFrom, RunLogEnsures}
@@ -60,6 +60,10 @@ after-run values w c {count} {s} keeps same is small e = (
   e .words ∙ (λ i. stateWords (is i) (same i)),
   written values count s small e ∙ (λ i. record { list = lent values (is i); state = same i }) ∙ sym keeps,
 )
+
+-- the channel of lent data and of what is read from the words
+pub channel-is : (values : List ℤ) (w : List ℕ) {count : ℕ} {s : State} → count ≡ countFrom w → s ≡ stateFrom w → beside values count s ≡ channelFrom values w
+channel-is values w is same = λ i. beside values (is i) (same i)
 
 module _ (values-a : List ℤ) (wa : List ℕ) (values-b : List ℤ) (wb words out : List ℕ) {a b : Channel} (is-a : a ≡ channelFrom values-a wa) (is-b : b ≡ channelFrom values-b wb)
     {r : LogRun} {out′ : List ℕ} (given : LogEnsures a b words out r out′) where

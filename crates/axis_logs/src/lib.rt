@@ -3,28 +3,12 @@ ghost use mathlib.Core.Path.{_≡_};
 ghost use Prim.Native.Nat.{_≤_};
 ghost use lib.ListN.{length};
 ghost use Rattle.numerals.specs.Written.{written};
-ghost use Rattle.image.specs.Image.{channelFrom};
 ghost use Rattle.kit_run.specs.KitRun.{kitRan};
 ghost use Rattle.listing.specs.Listing.{listed, cyclesOf, toldOf};
 ghost use Rattle.axis_logs.specs.Ensures.{RunLogEnsures};
-use channel::Channel;
 use image::Image;
 use log::LogAnswer;
-use machine_data::MachineData;
 use machine_data::Values;
-
-fn channel_from(values: &Values, state: &Image) -> Channel
-    ensures { λ r. ⌜ r ≡ channelFrom (now (values .entry)) (now (state .entry)) ⌝ }
-{
-    let own = *values;
-    Channel {
-        list: MachineData {
-            values: own,
-            count: image::count_of(state),
-        },
-        state: image::state_from(state),
-    }
-}
 
 // A log over two channels: 0 and the number of cycles, or the refusal's number and place, with the states and the output as
 // they were.
@@ -40,18 +24,18 @@ pub extern "C" fn monitor_run_log(
 ) -> u32
     ensures { λ r. ⌜ RunLogEnsures (now («values_a» .entry)) (now («state_a» .entry)) (now («values_b» .entry)) (now («state_b» .entry)) (now (words .entry)) (now (out .entry)) r (now («state_a» .exit)) (now («state_b» .exit)) (now (out .exit)) (now (at .exit)) ⌝ }
 {
-    let a = channel_from(values_a, state_a);
-    let b = channel_from(values_b, state_b);
-    let ran = log::run_log(a, b, words, out);
+    let na = image::count_of(state_a);
+    let nb = image::count_of(state_b);
+    let a = image::state_from(state_a);
+    let b = image::state_from(state_b);
+    let ran = log::run_on(values_a, na, a, values_b, nb, b, words, out);
     let answer = ran.answer;
     match answer {
         LogAnswer::Accepted(cycles) => {
-            let a_after = ran.a;
-            let a_state = a_after.state;
-            *state_a = image::words_of(image::count_of(state_a), a_state);
-            let b_after = ran.b;
-            let b_state = b_after.state;
-            *state_b = image::words_of(image::count_of(state_b), b_state);
+            let a_state = ran.a;
+            *state_a = image::words_of(na, a_state);
+            let b_state = ran.b;
+            *state_b = image::words_of(nb, b_state);
             *at = cycles;
             0
         }

@@ -17,11 +17,11 @@ use Rattle.records.specs.Records.{entryAt, LogRead, records, fault, before, onE
 use Rattle.channel.specs.declared.Channel.{Channel}
 use Rattle.state.specs.declared.State.{State}
 use Rattle.channel.specs.Cycle.{withState}
-use Rattle.log.specs.declared.LogRun.{LogRun}
+use Rattle.log.specs.declared.LogStates.{LogStates}
 use Rattle.log.specs.declared.LogAnswer.the-variants.{Accepted}
 use Rattle.log.specs.Run.{Both, Ran, bothOf, refusing, running, byRecords, ranOf}
 use Rattle.log.specs.Alone.{wordsAlone, thirds, withDevices}
-use Rattle.log.specs.Ensures.{LogEnsures, refusedRun, Sound, RunsAlone}
+use Rattle.log.specs.Ensures.{StatesEnsures, refusedStates, Sound, RunsAlone}
 use Rattle.log.proofs.Thirds.{together}
 use Rattle.log.proofs.Apart.{as-many, lines-apart, last-apart}
 
@@ -70,16 +70,16 @@ few-cycles words n e = let s = scanned words n e in omega (arith, s .2, few (len
 -- ---- the answers
 
 module _ (a b : Channel) (words out : List ℕ) where
-  refuses : (why : Refusal) {r : LogRun} → r ≡ refusedRun why a b → ranOf a b words out ≡ refusing a b out why → LogEnsures a b words out r out
+  refuses : (why : Refusal) {r : LogStates} → r ≡ refusedStates why (a .state) (b .state) → ranOf a b words out ≡ refusing a b out why → StatesEnsures a b words out r out
   refuses why {r} q e =
       record {
-        answer = ap (λ (x : LogRun). x .answer) q ∙ sym (ap (λ (x : Ran). x .answer) e);
-        channel-a = ap (λ (x : LogRun). x .a) q ∙ sym (ap (λ (x : Ran). x .a) e);
-        channel-b = ap (λ (x : LogRun). x .b) q ∙ sym (ap (λ (x : Ran). x .b) e);
+        answer = ap (λ (x : LogStates). x .answer) q ∙ sym (ap (λ (x : Ran). x .answer) e);
+        channel-a = ap (λ (x : LogStates). withState a (x .a)) q ∙ sym (ap (λ (x : Ran). x .a) e);
+        channel-b = ap (λ (x : LogStates). withState b (x .b)) q ∙ sym (ap (λ (x : Ran). x .b) e);
         output = sym (ap (λ (x : Ran). x .out) e);
       }
 
-  pub too-long : {r : LogRun} → r ≡ refusedRun (WrongLog 16384) a b → 16384 < length words → LogEnsures a b words out r out
+  pub too-long : {r : LogStates} → r ≡ refusedStates (WrongLog 16384) (a .state) (b .state) → 16384 < length words → StatesEnsures a b words out r out
   unfolding ranOf
   too-long q h = refuses (WrongLog 16384) q (simp (lt-ltb 16384 (length words) h))
 
@@ -88,10 +88,10 @@ module _ (a b : Channel) (words out : List ℕ) where
     unfolding ranOf
     by-log e = simp (le-ltb 16384 (length words) short) (ap (byRecords a b out) e)
 
-    pub bad-word : {r : LogRun} {place : ℕ} → r ≡ refusedRun (WrongLog place) a b → scanOf words ≡ S.the-variants.Bad place → LogEnsures a b words out r out
+    pub bad-word : {r : LogStates} {place : ℕ} → r ≡ refusedStates (WrongLog place) (a .state) (b .state) → scanOf words ≡ S.the-variants.Bad place → StatesEnsures a b words out r out
     bad-word {place = place} q e = refuses (WrongLog place) q (by-log (faulty words place e))
 
-    pub no-room : {r : LogRun} {n : ℕ} → r ≡ refusedRun (ShortOutput (3 * n)) a b → scanOf words ≡ S.the-variants.Cycles n → length out < 3 * n → LogEnsures a b words out r out
+    pub no-room : {r : LogStates} {n : ℕ} → r ≡ refusedStates (ShortOutput (3 * n)) (a .state) (b .state) → scanOf words ≡ S.the-variants.Cycles n → length out < 3 * n → StatesEnsures a b words out r out
     no-room {n = n} q e h =
         let s = scanned words n e in
         let less : length out < 3 * length (s .0) = omega (arith, s .2) in
@@ -105,7 +105,7 @@ module _ (a b : Channel) (words out : List ℕ) where
   -- both channels run one after the other, then their device words, as the machine gives them back
   module _ (la lb : State) (outa outb out′ : List ℕ) where
     pub ran : {n : ℕ} → Sound words out n → RunsAlone a (b .list) (b .state .k) false words out la outa → RunsAlone b (a .list) (a .state .k) true words outa lb outb →
-        out′ ≡ withDevices 0 n outb → LogEnsures a b words out (record { answer = Accepted n; a = withState a la; b = withState b lb }) out′
+        out′ ≡ withDevices 0 n outb → StatesEnsures a b words out (record { answer = Accepted n; a = la; b = lb }) out′
     ran {n} s runs-a runs-b devices =
         let da = a .list in
         let db = b .list in

@@ -4,13 +4,17 @@ use mathlib.Core.Path.{_≡_}
 use mathlib.Core.Bool.{Bool, cond}
 use mathlib.Core.List.{List}
 use lib.ListN.{length}
+use lib.IntN.{ℤ}
 use Rattle.machine_data.specs.declared.MachineData.{MachineData}
+use Rattle.machine_data.specs.Data.{lent}
 use Rattle.channel.specs.declared.Channel.{Channel}
+use Rattle.channel.specs.Cycle.{withState}
 use Rattle.state.specs.declared.State.{State}
 use Rattle.seven.specs.declared.CycleRecord.{CycleRecord}
 use Rattle.records.specs.Records.{records, logOf}
 use Rattle.refusal.specs.declared.Refusal.{Refusal}
 use Rattle.log.specs.declared.LogRun.{LogRun}
+use Rattle.log.specs.declared.LogStates.{LogStates}
 use Rattle.log.specs.declared.LogAnswer.the-variants.{Refused}
 use Rattle.log.specs.Run.{ranOf}
 use Rattle.log.specs.Alone.{lastAlone, wordsAlone, thirds}
@@ -21,10 +25,18 @@ pub record LogEnsures (a b : Channel) (words out : List ℕ) (r : LogRun) (out�
   pub channel-b : r .b ≡ ranOf a b words out .b
   pub output : out′ ≡ ranOf a b words out .out
 
+-- a state beside its data is a channel
+abbrev pub beside : List ℤ → ℕ → State → Channel
+beside values count s = record { list = lent values count; state = s }
+
+-- the same of two states: the channels keep their data
+abbrev pub StatesEnsures : Channel → Channel → List ℕ → List ℕ → LogStates → List ℕ → Type 0
+StatesEnsures a b words out r out′ = LogEnsures a b words out (record { answer = r .answer; a = withState a (r .a); b = withState b (r .b) }) out′
+
 -- ---- of the private functions
 
-abbrev pub refusedRun : Refusal → Channel → Channel → LogRun
-refusedRun why a b = record { answer = Refused why; a = a; b = b }
+abbrev pub refusedStates : Refusal → State → State → LogStates
+refusedStates why a b = record { answer = Refused why; a = a; b = b }
 
 -- the words are a log of these records, and the output has room for their words
 pub record Enough (words out : List ℕ) : Type 0 where

@@ -6,7 +6,7 @@ ghost use lib.ListN.{length};
 ghost use Rattle.machine_data.specs.Data.{lent};
 ghost use Rattle.seven.specs.Seven.{sixFrom, recordOf};
 ghost use Rattle.log.specs.Alone.{readingIn, givenIn, withDevices};
-ghost use Rattle.log.specs.Ensures.{LogEnsures, refusedRun, Enough, Sound, RunsAlone};
+ghost use Rattle.log.specs.Ensures.{LogEnsures, beside, StatesEnsures, refusedStates, Enough, Sound, RunsAlone};
 use channel::Channel;
 use inputs::Reading;
 use machine_data::Values;
@@ -30,6 +30,13 @@ pub struct LogRun {
     pub answer: LogAnswer,
     pub a: Channel,
     pub b: Channel,
+}
+
+// The same of two states beside their data.
+pub struct LogStates {
+    pub answer: LogAnswer,
+    pub a: State,
+    pub b: State,
 }
 
 // The record that begins with a position at a place where one stands whole.
@@ -83,9 +90,11 @@ fn first_place(second: bool) -> usize
 
 // One channel over the records of an accepted log: what begins with a position is a record, and all else a remark. Its words
 // go to every third place of the output. Of the other channel it takes the data and k, which rises by one in every cycle,
-// so each channel runs by itself. The data come by value: a copy that no write to the output can reach is read once.
+// so each channel runs by itself. Its own data are copied here: a copy that no write to the output can reach is read once.
 fn run_channel(
-    own: Channel,
+    values: &Values,
+    own_count: usize,
+    fresh: State,
     other: &Values,
     count: usize,
     k: u8,
@@ -94,10 +103,10 @@ fn run_channel(
     out: &mut [u32],
 ) -> State
     requires { ⌜ Enough (now words) (now out) ⌝ }
-    ensures { λ r. ⌜ RunsAlone own (lent (now (other .entry)) count) k second (now (words .entry)) (now (out .entry)) r (now (out .exit)) ⌝ }
+    ensures { λ r. ⌜ RunsAlone (beside (now (values .entry)) «own_count» fresh) (lent (now (other .entry)) count) k second (now (words .entry)) (now (out .entry)) r (now (out .exit)) ⌝ }
 {
-    let list = own.list;
-    let mut state = own.state;
+    let own = *values;
+    let mut state = fresh;
     let mut reported = k;
     let mut at = 0usize;
     let mut next = first_place(second);
@@ -108,7 +117,7 @@ fn run_channel(
         };
         let recorded = record_at(words, at, position);
         let given = given_by(recorded, second, other, count, reported);
-        let after = channel::advance(&list.values, list.count, state, given);
+        let after = channel::advance(&own, own_count, state, given);
         out[next] = after.word;
         let reached = after.state;
         state = reached;
@@ -133,10 +142,10 @@ fn put_devices(out: &mut [u32], cycles: usize)
     }
 }
 
-fn refused(why: Refusal, a: Channel, b: Channel) -> LogRun
-    ensures { λ r. ⌜ r ≡ refusedRun why a b ⌝ }
+fn refused(why: Refusal, a: State, b: State) -> LogStates
+    ensures { λ r. ⌜ r ≡ refusedStates why a b ⌝ }
 {
-    LogRun {
+    LogStates {
         answer: LogAnswer::Refused(why),
         a,
         b,
@@ -144,27 +153,42 @@ fn refused(why: Refusal, a: Channel, b: Channel) -> LogRun
 }
 
 // A log whose records are sound, with room for their words.
-fn accepted(a: Channel, b: Channel, words: &[u32], out: &mut [u32], cycles: usize) -> LogRun
+fn accepted(
+    da: &Values,
+    na: usize,
+    a: State,
+    db: &Values,
+    nb: usize,
+    b: State,
+    words: &[u32],
+    out: &mut [u32],
+    cycles: usize,
+) -> LogStates
     requires { ⌜ Sound (now words) (now out) cycles ⌝ }
-    ensures { λ r. ⌜ LogEnsures a b (now (words .entry)) (now (out .entry)) r (now (out .exit)) ⌝ }
+    ensures { λ r. ⌜ StatesEnsures (beside (now (da .entry)) na a) (beside (now (db .entry)) nb b) (now (words .entry)) (now (out .entry)) r (now (out .exit)) ⌝ }
 {
-    let ma = a.list;
-    let mb = b.list;
-    let sa = a.state;
-    let sb = b.state;
-    let la = run_channel(a, &mb.values, mb.count, sb.k, false, words, out);
-    let lb = run_channel(b, &ma.values, ma.count, sa.k, true, words, out);
+    let la = run_channel(da, na, a, db, nb, b.k, false, words, out);
+    let lb = run_channel(db, nb, b, da, na, a.k, true, words, out);
     put_devices(out, cycles);
-    LogRun {
+    LogStates {
         answer: LogAnswer::Accepted(cycles),
-        a: channel::with_state(a, la),
-        b: channel::with_state(b, lb),
+        a: la,
+        b: lb,
     }
 }
 
-// A log over two channels: checked whole, and only then run.
-pub fn run_log(a: Channel, b: Channel, words: &[u32], out: &mut [u32]) -> LogRun
-    ensures { λ r. ⌜ LogEnsures a b (now (words .entry)) (now (out .entry)) r (now (out .exit)) ⌝ }
+// A log over two states beside their data, with no copy of the data on the way: checked whole, and only then run.
+pub fn run_on(
+    da: &Values,
+    na: usize,
+    a: State,
+    db: &Values,
+    nb: usize,
+    b: State,
+    words: &[u32],
+    out: &mut [u32],
+) -> LogStates
+    ensures { λ r. ⌜ StatesEnsures (beside (now (da .entry)) na a) (beside (now (db .entry)) nb b) (now (words .entry)) (now (out .entry)) r (now (out .exit)) ⌝ }
 {
     if 16384 < words.len() {
         return refused(Refusal::WrongLog(16384), a, b);
@@ -174,9 +198,37 @@ pub fn run_log(a: Channel, b: Channel, words: &[u32], out: &mut [u32]) -> LogRun
             if out.len() < 3 * cycles {
                 refused(Refusal::ShortOutput(3 * cycles), a, b)
             } else {
-                accepted(a, b, words, out, cycles)
+                accepted(da, na, a, db, nb, b, words, out, cycles)
             }
         }
         Scan::Bad(place) => refused(Refusal::WrongLog(place), a, b),
+    }
+}
+
+// A log over two channels.
+pub fn run_log(a: Channel, b: Channel, words: &[u32], out: &mut [u32]) -> LogRun
+    ensures { λ r. ⌜ LogEnsures a b (now (words .entry)) (now (out .entry)) r (now (out .exit)) ⌝ }
+{
+    let ma = a.list;
+    let mb = b.list;
+    let sa = a.state;
+    let sb = b.state;
+    let ran = run_on(
+        &ma.values,
+        ma.count,
+        sa,
+        &mb.values,
+        mb.count,
+        sb,
+        words,
+        out,
+    );
+    let answer = ran.answer;
+    let la = ran.a;
+    let lb = ran.b;
+    LogRun {
+        answer,
+        a: channel::with_state(a, la),
+        b: channel::with_state(b, lb),
     }
 }

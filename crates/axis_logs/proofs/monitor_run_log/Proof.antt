@@ -1,30 +1,30 @@
 -- `axis_logs::monitor_run_log` meets its contract. Assumes nothing.
 use denote.Ref.{now}
-use Rattle.axis_logs.proofs.Logs.{ran, refused}
+use Rattle.axis_logs.proofs.Logs.{channel-is, ran, refused}
 use borrow.Author.Needs.{needs}
 use Rattle.axis_logs.proofs.monitor_run_log.Statement.{statement}
 use Rattle.axis_logs.proofs.monitor_run_log.Tie as tie
 
-channel-from-requires : tie.Need-channel-from-requires
-channel-from-requires c κs = search needs
+count-of-requires : tie.Need-count-of-requires
+count-of-requires c κs = search needs
 
-channel-from-requires-2 : tie.Need-channel-from-requires-2
-channel-from-requires-2 c κs = search needs
+count-of-requires-2 : tie.Need-count-of-requires-2
+count-of-requires-2 c κs = search needs
 
-run-log-requires : tie.Need-run-log-requires
-run-log-requires c κs = search needs
+state-from-requires : tie.Need-state-from-requires
+state-from-requires c κs = search needs
+
+state-from-requires-2 : tie.Need-state-from-requires-2
+state-from-requires-2 c κs = search needs
+
+run-on-requires : tie.Need-run-on-requires
+run-on-requires c κs = search needs
 
 enum-known-answer : tie.Need-enum-known-answer
 enum-known-answer c = search needs
 
-count-of-requires : tie.Need-count-of-requires
-count-of-requires c κs = search needs
-
 words-of-requires : tie.Need-words-of-requires
 words-of-requires c κs = search needs
-
-count-of-requires-2 : tie.Need-count-of-requires-2
-count-of-requires-2 c κs = search needs
 
 words-of-requires-2 : tie.Need-words-of-requires-2
 words-of-requires-2 c κs = search needs
@@ -42,25 +42,31 @@ same-length : tie.Need-same-length
 same-length c = search needs
 
 returns : tie.Need-returns
-returns c = let a = c .before .before .before .before .before .before .before .before .before .before .before .before .before .before .before .before .before .before .before .before .before .before .before .args in ran (now (a .values-a)) (now (a .state-a)) (now (a .values-b)) (now (a .state-b)) (now (a .words)) (now (a .out)) (c .before .before .before .before .before .before .before .before .before .before .before .before .before .before .before .before .before .before .before .channel-from .ensures) (c .before .before .before .before .before .before .before .before .before .before .before .before .before .before .before .before .before .channel-from2 .ensures) (c .before .before .before .before .before .before .before .before .before .before .before .before .before .before .before .run-log .ensures) (c .before .before .before .before .before .before .before .before .before .before .before .answer .given .1) (c .before .before .before .before .before .before .count-of .ensures .0) (c .before .before .before .before .before .before .count-of .ensures .1) (c .before .count-of2 .ensures .0) (c .before .count-of2 .ensures .1) (c .before .before .before .before .before .words-of .ensures) (c .words-of2 .ensures)
+returns c = let a = c .before .before .before .before .before .before .before .before .before .before .before .before .before .before .before .before .before .before .before .before .before .args in
+    let wa = now (a .state-a) in
+    let wb = now (a .state-b) in
+    ran (now (a .values-a)) wa (now (a .values-b)) wb (now (a .words)) (now (a .out)) (channel-is (now (a .values-a)) wa (c .before .before .before .before .before .before .before .before .before .before .before .before .before .before .before .before .before .count-of .ensures .0) (c .before .before .before .before .before .before .before .before .before .before .before .before .before .state-from .ensures)) (channel-is (now (a .values-b)) wb (c .before .before .before .before .before .before .before .before .before .before .before .before .before .before .before .count-of2 .ensures .0) (c .before .before .before .before .before .before .before .before .before .before .before .state-from2 .ensures)) (c .before .before .before .before .before .before .before .before .before .run-on .ensures) (c .before .before .before .before .before .answer .given .1) (c .before .before .before .before .before .before .before .before .before .before .before .before .before .before .before .before .before .count-of .ensures .0) (c .before .before .before .before .before .before .before .before .before .before .before .before .before .before .before .before .before .count-of .ensures .1) (c .before .before .before .before .before .before .before .before .before .before .before .before .before .before .before .count-of2 .ensures .0) (c .before .before .before .before .before .before .before .before .before .before .before .before .before .before .before .count-of2 .ensures .1) (c .before .before .words-of .ensures) (c .words-of2 .ensures)
 
 same-length-2 : tie.Need-same-length-2
 same-length-2 c = search needs
 
 returns-2 : tie.Need-returns-2
-returns-2 c = let a = c .before .before .before .before .before .before .before .before .before .before .before .before .before .before .before .args in refused (now (a .values-a)) (now (a .state-a)) (now (a .values-b)) (now (a .state-b)) (now (a .words)) (now (a .out)) (c .before .before .before .before .before .before .before .before .before .before .before .channel-from .ensures) (c .before .before .before .before .before .before .before .before .before .channel-from2 .ensures) (c .before .before .before .before .before .before .before .run-log .ensures) (c .before .before .before .answer2 .given .1) (c .number .ensures) (c .before .place .ensures)
+returns-2 c = let a = c .before .before .before .before .before .before .before .before .before .before .before .before .before .before .before .before .before .before .before .args in
+    let wa = now (a .state-a) in
+    let wb = now (a .state-b) in
+    refused (now (a .values-a)) wa (now (a .values-b)) wb (now (a .words)) (now (a .out)) (channel-is (now (a .values-a)) wa (c .before .before .before .before .before .before .before .before .before .before .before .before .before .before .before .count-of .ensures .0) (c .before .before .before .before .before .before .before .before .before .before .before .state-from .ensures)) (channel-is (now (a .values-b)) wb (c .before .before .before .before .before .before .before .before .before .before .before .before .before .count-of2 .ensures .0) (c .before .before .before .before .before .before .before .before .before .state-from2 .ensures)) (c .before .before .before .before .before .before .before .run-on .ensures) (c .before .before .before .answer2 .given .1) (c .number .ensures) (c .before .place .ensures)
 
 pub monitor-run-log-spec : {M : Type 1} → statement M
 monitor-run-log-spec =
     tie.close
     (tie.spec
-    channel-from-requires
-    channel-from-requires-2
-    run-log-requires
-    enum-known-answer
     count-of-requires
-    words-of-requires
     count-of-requires-2
+    state-from-requires
+    state-from-requires-2
+    run-on-requires
+    enum-known-answer
+    words-of-requires
     words-of-requires-2
     enum-known-answer-2
     place-requires

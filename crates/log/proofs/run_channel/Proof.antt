@@ -2,8 +2,8 @@
 use mathlib.Core.Path.{_≡_, refl, sym, ap, _∙_}
 use Prim.Native.Nat.{_-_, _≤_}
 use native.Mathlib.Omega.{arith}
-use denote.Ref.{now}
 use borrow.Author.Needs.{needs}
+use denote.Ref.{now}
 use lib.ListN.{length, length-set}
 use lib.IntN.{ℤ}
 use Rattle.machine_data.specs.Data.{lent}
@@ -16,17 +16,17 @@ use Rattle.log.proofs.run_channel.Statement.{statement}
 use Rattle.log.proofs.run_channel.Tie as tie
 
 abbrev Inv-loop : tie.InvT-loop
-Inv-loop other count k second words out₀ list state₀ reported₀ at₀ next₀ out state reported at next =
-    (at ≤ length words) × (length out ≡ length out₀) × Going second list (lent other count) state₀ k words out₀ out state reported at next
+Inv-loop values own-count other count k second words out₀ own state₀ reported₀ at₀ next₀ out state reported at next =
+    (at ≤ length words) × (length out ≡ length out₀) × Going second (lent own own-count) (lent other count) state₀ k words out₀ out state reported at next
 
 abbrev μ-loop : tie.MeasureT-loop
-μ-loop other count k second words out₀ list state₀ reported₀ at₀ next₀ out state reported at next = length words - at
+μ-loop values own-count other count k second words out₀ own state₀ reported₀ at₀ next₀ out state reported at next = length words - at
 
 first-place-requires : tie.Need-first-place-requires Inv-loop μ-loop
 first-place-requires c κs = search needs
 
 loop-holds : tie.Need-loop-holds Inv-loop μ-loop
-loop-holds c = (omega arith, refl, starts (c .before .before .before .before .before .pre) (c .first-place .ensures))
+loop-holds c = (omega arith, refl, starts (c .before .before .before .before .pre) (c .first-place .ensures))
 
 mul-word-of : tie.Need-mul-word-of Inv-loop μ-loop
 mul-word-of c = search needs
@@ -59,40 +59,41 @@ advance-requires : tie.Need-advance-requires Inv-loop μ-loop
 advance-requires c κs = search needs
 
 mul-out : tie.Need-mul-out Inv-loop μ-loop
-mul-out c = omega (arith, there (c .before .before .before .before .before .before .before .before .before .before .before .loop .inv .2) (c .before .before .before .before .before .before .before .before .before .before .loop-test .taken) (sym (c .before .before .before .before .before .before .before .before .word-of .ensures) ∙ c .before .before .before .before .before .before .position .given .1) .1, c .before .before .before .before .before .before .before .before .before .before .before .loop .inv .1, c .before .before .before .before .before .before .before .before .before .before .before .before .before .before .before .before .before .good)
+mul-out c = omega (arith, there (c .before .before .before .before .before .before .before .before .before .before .loop .inv .2) (c .before .before .before .before .before .before .before .before .before .loop-test .taken) (sym (c .before .before .before .before .before .before .before .word-of .ensures) ∙ c .before .before .before .before .before .position .given .1) .1, c .before .before .before .before .before .before .before .before .before .before .loop .inv .1, c .before .before .before .before .before .before .before .before .before .before .before .before .before .before .before .good)
 
 slice-write-out : tie.Need-slice-write-out Inv-loop μ-loop
-slice-write-out c = there (c .before .before .before .before .before .before .before .before .before .before .before .loop .inv .2) (c .before .before .before .before .before .before .before .before .before .before .loop-test .taken) (sym (c .before .before .before .before .before .before .before .before .word-of .ensures) ∙ c .before .before .before .before .before .before .position .given .1) .1
+slice-write-out c = there (c .before .before .before .before .before .before .before .before .before .before .loop .inv .2) (c .before .before .before .before .before .before .before .before .before .loop-test .taken) (sym (c .before .before .before .before .before .before .before .word-of .ensures) ∙ c .before .before .before .before .before .position .given .1) .1
 
 next-k-requires : tie.Need-next-k-requires Inv-loop μ-loop
 next-k-requires c κs = search needs
 
 add-at-2 : tie.Need-add-at-2 Inv-loop μ-loop
-add-at-2 c = omega (arith, there (c .before .before .before .before .before .before .before .before .before .before .before .before .before .loop .inv .2) (c .before .before .before .before .before .before .before .before .before .before .before .before .loop-test .taken) (sym (c .before .before .before .before .before .before .before .before .before .before .word-of .ensures) ∙ c .before .before .before .before .before .before .before .before .position .given .1) .0, c .before .before .before .before .before .before .before .before .before .before .before .before .before .before .before .before .before .before .before .good)
+add-at-2 c = omega (arith, there (c .before .before .before .before .before .before .before .before .before .before .before .before .loop .inv .2) (c .before .before .before .before .before .before .before .before .before .before .before .loop-test .taken) (sym (c .before .before .before .before .before .before .before .before .before .word-of .ensures) ∙ c .before .before .before .before .before .before .before .position .given .1) .0, c .before .before .before .before .before .before .before .before .before .before .before .before .before .before .before .before .before .good)
 
 add-next : tie.Need-add-next Inv-loop μ-loop
-add-next c = omega (arith, there (c .before .before .before .before .before .before .before .before .before .before .before .before .before .loop .inv .2) (c .before .before .before .before .before .before .before .before .before .before .before .before .loop-test .taken) (sym (c .before .before .before .before .before .before .before .before .before .before .word-of .ensures) ∙ c .before .before .before .before .before .before .before .before .position .given .1) .1, c .before .before .before .before .before .before .before .before .before .before .before .before .before .loop .inv .1, c .before .before .before .before .before .before .before .before .before .before .before .before .before .before .before .before .before .before .before .good)
+add-next c = omega (arith, there (c .before .before .before .before .before .before .before .before .before .before .before .before .loop .inv .2) (c .before .before .before .before .before .before .before .before .before .before .before .loop-test .taken) (sym (c .before .before .before .before .before .before .before .before .before .word-of .ensures) ∙ c .before .before .before .before .before .before .before .position .given .1) .1, c .before .before .before .before .before .before .before .before .before .before .before .before .loop .inv .1, c .before .before .before .before .before .before .before .before .before .before .before .before .before .before .before .before .before .good)
 
 loop-less-2 : tie.Need-loop-less-2 Inv-loop μ-loop
-loop-less-2 c = omega (arith, c .before .before .before .before .before .before .before .before .before .before .before .before .loop-test .taken)
+loop-less-2 c = omega (arith, c .before .before .before .before .before .before .before .before .before .before .before .loop-test .taken)
 
 loop-again-2 : tie.Need-loop-again-2 Inv-loop μ-loop
-loop-again-2 c = let l = c .before .before .before .before .before .before .before .before .before .before .before .before .before .loop in let a = c .before .before .before .before .before .before .before .before .before .before .before .before .before .before .before .before .before .before .before .args in
+loop-again-2 c = let l = c .before .before .before .before .before .before .before .before .before .before .before .before .loop in
+    let a = c .before .before .before .before .before .before .before .before .before .before .before .before .before .before .before .before .before .args in
     let s = now (a .words) in
-    let p = c .before .before .before .before .before .before .before .before .position .given .0 .0 in
-    let first = sym (c .before .before .before .before .before .before .before .before .before .before .word-of .ensures) ∙ c .before .before .before .before .before .before .before .before .position .given .1 in
-    let whole = there (l .inv .2) (c .before .before .before .before .before .before .before .before .before .before .before .before .loop-test .taken) first in
-    let recorded = c .before .before .before .before .before .before .record-at .ensures ∙ ap (λ (z : ℤ). recordOf z (sixFrom s (l .at))) {y = p} (search needs) ∙ ap (recordOf p) (sym (six-there s (l .at) (omega (arith, whole .0)))) in (
+    let p = c .before .before .before .before .before .before .before .position .given .0 .0 in
+    let first = sym (c .before .before .before .before .before .before .before .before .before .word-of .ensures) ∙ c .before .before .before .before .before .before .before .position .given .1 in
+    let whole = there (l .inv .2) (c .before .before .before .before .before .before .before .before .before .before .before .loop-test .taken) first in
+    let recorded = c .before .before .before .before .before .record-at .ensures ∙ ap (λ (z : ℤ). recordOf z (sixFrom s (l .at))) {y = p} (search needs) ∙ ap (recordOf p) (sym (six-there s (l .at) (omega (arith, whole .0)))) in (
       whole .0,
       length-set (l .out) (l .next) (c .before .before .advance .result .word) ∙ l .inv .1,
-      stepped (l .inv .2) (c .before .before .before .before .before .before .before .before .before .before .before .before .loop-test .taken) first (c .before .before .before .before .before .given-by .ensures ∙ ap (givenIn (a .second) (lent (now (a .other)) (a .count)) (l .reported)) recorded) (c .before .before .advance .ensures) (c .next-k .ensures),
+      stepped (l .inv .2) (c .before .before .before .before .before .before .before .before .before .before .before .loop-test .taken) first (c .before .before .before .before .given-by .ensures ∙ ap (givenIn (a .second) (lent (now (a .other)) (a .count)) (l .reported)) recorded) (c .before .before .advance .ensures) (c .next-k .ensures),
     )
 
 same-length : tie.Need-same-length Inv-loop μ-loop
 same-length c = c .before .loop .inv .1
 
 returns : tie.Need-returns Inv-loop μ-loop
-returns c = ended (c .before .before .before .before .before .before .before .args .own) (c .before .loop .inv .2) (c .loop-test .left)
+returns c = let a = c .before .before .before .before .before .before .args in ended (record { list = lent (now (a .values)) (a .own-count); state = a .fresh }) (c .before .loop .inv .2) (c .loop-test .left)
 
 pub run-channel-spec : {M : Type 1} → statement M
 run-channel-spec =

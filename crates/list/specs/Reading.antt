@@ -16,6 +16,7 @@ use Rattle.list.specs.Rules.{isHead, seBelow}
 use Rattle.list.specs.declared.ListRead.{ListRead}
 use Rattle.list.specs.declared.ListAnswer as A
 
+-- no datum is read yet; what the list lacks stays 0
 abbrev pub zeros : List ℤ
 zeros = replicate dataCount (pos 0)
 

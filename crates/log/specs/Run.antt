@@ -20,7 +20,7 @@ use Rattle.refusal.specs.declared.Refusal.the-variants.{WrongLog, ShortOutput}
 use Rattle.log.specs.declared.LogAnswer.{LogAnswer}
 use Rattle.log.specs.declared.LogAnswer.the-variants.{Accepted, Refused}
 
--- what a record gives a channel: its own reading, and the other's report, "datum k by the data and k of the channel given"
+-- what a record gives a channel: its own reading, and the other's report, "datum k by the data and k of the channel given", and its head (W1)
 abbrev pub givenBy : MachineData → ℕ → Reading → Reading → Bool → Given
 givenBy d k own other ack = record { reading = own; acknowledged = ack; report = reportOf d k other }
 

@@ -94,7 +94,7 @@ fn first_place(second: bool) -> usize
 fn run_channel(
     values: &Values,
     own_count: usize,
-    fresh: State,
+    start: State,
     other: &Values,
     count: usize,
     k: u8,
@@ -103,10 +103,10 @@ fn run_channel(
     out: &mut [u32],
 ) -> State
     requires { ⌜ Enough (now words) (now out) ⌝ }
-    ensures { λ r. ⌜ RunsAlone (beside (now (values .entry)) «own_count» fresh) (lent (now (other .entry)) count) k second (now (words .entry)) (now (out .entry)) r (now (out .exit)) ⌝ }
+    ensures { λ r. ⌜ RunsAlone (beside (now (values .entry)) «own_count» start) (lent (now (other .entry)) count) k second (now (words .entry)) (now (out .entry)) r (now (out .exit)) ⌝ }
 {
     let own = *values;
-    let mut state = fresh;
+    let mut state = start;
     let mut reported = k;
     let mut at = 0usize;
     let mut next = first_place(second);

@@ -36,7 +36,7 @@ pub fn sg_speed(values: &Values, sg: Sg) -> u64
     machine_data::sg_limit(values, sg.number) * sg_percent(values, sg)
 }
 
-// The load's step, as a multiple of the denominator's part of it.
+// The load's step, times the denominator.
 fn load_step(step: Step) -> u64
     ensures { λ r. ⌜ r ≡ loadStep step ⌝ }
     ensures { λ r. ⌜ r ≤ 281470681677825 ⌝ }
@@ -45,7 +45,7 @@ fn load_step(step: Step) -> u64
     (step.moved as u64) * (ratio.numerator as u64)
 }
 
-// The cycle's length, as often as the denominator says.
+// The cycle's length, times the denominator.
 fn load_time(values: &Values, step: Step) -> u64
     ensures { λ r. ⌜ r ≡ loadTime (now (values .entry)) step ⌝ }
     ensures { λ r. ⌜ r ≤ 1638375 ⌝ }

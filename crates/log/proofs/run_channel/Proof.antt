@@ -11,6 +11,7 @@ use Rattle.seven.specs.Seven.{sixFrom, recordOf}
 use Rattle.seven.proofs.ByBits.{six-there}
 use Rattle.records.proofs.Seven.{begins-none}
 use Rattle.log.specs.Alone.{givenIn}
+use Rattle.log.specs.Ensures.{beside}
 use Rattle.log.proofs.Going.{Going, starts, there, remarked, stepped, ended}
 use Rattle.log.proofs.run_channel.Statement.{statement}
 use Rattle.log.proofs.run_channel.Tie as tie
@@ -93,7 +94,7 @@ same-length : tie.Need-same-length Inv-loop μ-loop
 same-length c = c .before .loop .inv .1
 
 returns : tie.Need-returns Inv-loop μ-loop
-returns c = let a = c .before .before .before .before .before .before .args in ended (record { list = lent (now (a .values)) (a .own-count); state = a .fresh }) (c .before .loop .inv .2) (c .loop-test .left)
+returns c = let a = c .before .before .before .before .before .before .args in ended (beside (now (a .values)) (a .own-count) (a .start)) (c .before .loop .inv .2) (c .loop-test .left)
 
 pub run-channel-spec : {M : Type 1} → statement M
 run-channel-spec =

@@ -69,8 +69,8 @@ typedef struct monitor_channel {
 #define MONITOR_IN_STOP_E_OFF 0x00200000u /* external STOP E de-selected */
 #define MONITOR_IN_OVERRIDE 0xf0000000u   /* override number */
 #define MONITOR_IN_OVERRIDE_AT 28         /* its lowest bit */
-#define MONITOR_IN_BITS 0xf03c101bu       /* all of these */
-#define MONITOR_IN_GEAR 0x00000700u       /* number of the gear ratio; must be 0 with a list of 51 data */
+#define MONITOR_IN_BITS 0xf03c101bu       /* all of these: what an input word may have with a list of 51 data */
+#define MONITOR_IN_GEAR 0x00000700u       /* number of the gear ratio, with a list of 67 data; must be 0 with one of 51 */
 #define MONITOR_IN_GEAR_AT 8              /* its lowest bit; every bit that is not named must be 0 */
 
 /* Bits of a channel word. */

@@ -1,5 +1,5 @@
 -- A log over channels with lists headed 51, and a kit without a list headed 67, give the states, words and lines that they gave before W1. Assumes nothing.
-use Prim.Native.Nat.{ℕ, _+_}
+use Prim.Native.Nat.{ℕ, _+_, _*_}
 use mathlib.Core.Path.{_≡_, refl, sym, ap, _∙_}
 use mathlib.Core.Bool.{Bool, true, false, cond, _||_}
 use mathlib.Core.List.{List, [], _∷_, _++_}
@@ -25,13 +25,16 @@ use Rattle.list.specs.IsList.{IsList, list}
 use Rattle.list.specs.Reading.{readList}
 use Rattle.list.proofs.Accepts.{accepted, whole-answer, lacking}
 use Rattle.kit.specs.Kit.{first, second, readKit}
+use Rattle.channel.specs.declared.Channel.{Channel}
+use Rattle.channel.specs.Cycle.{withState}
 use Rattle.channel.specs.Word.{word}
-use Rattle.log.specs.Run.{Both, givenBy, givenA, givenB, deviceCycle, lastOf, linesOf}
+use Rattle.log.specs.declared.LogAnswer.the-variants.{Accepted}
+use Rattle.log.specs.Run.{Both, givenBy, givenA, givenB, deviceCycle, lastOf, linesOf, bothOf, running}
 use Rattle.kit_bytes.specs.KitBytes.{wholeWords, wordsOf}
 use Rattle.listing.specs.Listing.{Said, refused, byLog, byLists, saidOf, said, textOf, listed}
 use Rattle.headed_51.specs.Lists.{read51, widened}
 use Rattle.headed_51.specs.Cycle.{Headed51, next51, word51}
-use Rattle.headed_51.specs.Listing.{given51, givenA51, givenB51, both51, last51, lines51, byLog51, second51, first51, saidOf51, listed51, Ungeared, UngearedKit}
+use Rattle.headed_51.specs.Listing.{given51, givenA51, givenB51, both51, last51, lines51, running51, byLog51, second51, first51, saidOf51, listed51, Ungeared, UngearedKit}
 use Rattle.headed_51.proofs.Lists.{read-51}
 use Rattle.headed_51.proofs.Cycle.{entry-51, next-51, word-51}
 
@@ -75,6 +78,13 @@ module _ (da db : MachineData) (ha : Headed51 da) (hb : Headed51 db) where
   lines-51 x (r ∷ rs) =
       let rest = ap (λ (y : Both). linesOf da db y rs) (both-same x r) ∙ lines-51 (both51 da db x r) rs in
       λ i. word-a x r i ∷ word-b x r i ∷ deviceOf (word-a x r i) (word-b x r i) ∷ rest i
+
+-- what an accepted log leaves: both channels and the whole output
+pub running-51 : (a b : Channel) → Headed51 (a .list) → Headed51 (b .list) → (out : List ℕ) (rs : List CycleRecord) → running a b out rs ≡ running51 a b out rs
+running-51 a b ha hb out rs =
+    let last = last-51 (a .list) (b .list) ha hb (bothOf a b) rs in
+    let lines = lines-51 (a .list) (b .list) ha hb (bothOf a b) rs in
+    λ i. record { answer = Accepted (length rs); a = withState a (last i .a); b = withState b (last i .b); out = lines i ++ drop (3 * length rs) out }
 
 -- ---- a kit
 

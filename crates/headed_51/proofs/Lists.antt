@@ -4,7 +4,7 @@ use mathlib.Core.Bool.{Bool, true, false, cond, _&&_, _||_}
 use mathlib.Core.List.{List, [], _∷_, _++_}
 use Prim.Native.Nat.{ℕ, zero, suc, _+_, _≤_, _<_}
 use native.Mathlib.Omega.{arith}
-use lib.ListN.{length, set, replicate, length-set, length-replicate, List·getD-append}
+use lib.ListN.{length, getD, set, replicate, length-set, length-replicate, List·getD-append}
 use lib.IntN.{ℤ, pos}
 use lib.Seq.{set-append-left}
 use lib.Signed.{leZ, ltZ}
@@ -16,6 +16,7 @@ use Rattle.words.specs.declared.Word.the-variants as W
 use Rattle.words.specs.Words.{wordAt}
 use Rattle.words.specs.Cases.{ifHead}
 use Rattle.ranges.specs.Table.{Row, baseRows, gearRows, rows, rowOf, inRange}
+use Rattle.machine_data.specs.Data.{nearest, datumOf}
 use Rattle.datum.specs.declared.DatumRead as R
 use Rattle.datum.specs.declared.Units as U
 use Rattle.datum.specs.declared.DatumAnswer as D
@@ -62,6 +63,11 @@ row-51 k h = row-front baseRows gearRows k (reaches-down baseRows 50 k (omega (a
 pub in-range-51 : (k : ℕ) (z : ℤ) → k < 51 → inRange k z ≡ inRange51 k z
 unfolding inRange
 in-range-51 k z h = simp (lt-ltb k 67 (omega (arith, h)), lt-ltb k 51 h) (λ i. leZ (row-51 k h i .low) z && leZ z (row-51 k h i .high))
+
+-- data 0 to 50 are read by document 01's table
+pub datum-51 : (d : List ℤ) (k : ℕ) → k < 51 → datumOf d k ≡ nearest (rowOf baseRows k .low) (rowOf baseRows k .high) (getD d k (pos 0))
+unfolding datumOf
+datum-51 d k h = simp (lt-ltb k 67 (omega (arith, h))) (λ i. nearest (row-51 k h i .low) (row-51 k h i .high) (getD d k (pos 0)))
 
 module _ (s : List ℕ) (k at : ℕ) (h : k < 51) where
   pub value-51 : valueAt s k at ≡ value51 s k at

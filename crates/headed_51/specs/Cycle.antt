@@ -1,6 +1,7 @@
 -- A cycle as it was before W1: document 01, "Safe inputs and reports" and "One cycle of a channel". Nothing here looks at a gear's bits, a ratio or a
--- report's head. Two definitions are those of now, with a step of the ratio 1 to 1: the table of causes and what a usable cycle leaves; that their
--- comparisons are document 01's then is `too-fast-51` and `slower-51` in proofs/Cycle.antt.
+-- report's head. What W1 left alone is not kept twice. Of what it moved, the table of causes, n<nx and what a usable cycle leaves are those of now with
+-- a step of the ratio 1 to 1: that their comparisons are document 01's then is `too-fast-51` and `slower-51` in proofs/Cycle.antt; and data 0 to 50 are
+-- read by its table, `datum-51` in proofs/Lists.antt.
 use Prim.Native.Nat.{ℕ, suc, _+_, _/_, _%_, _^_, _≤_}
 use mathlib.Core.Path.{_≡_}
 use mathlib.Core.Bool.{Bool, true, not, cond, _&&_}

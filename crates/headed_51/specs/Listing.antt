@@ -1,8 +1,8 @@
 -- A log's run and a kit's listing as they were before W1: document 01, "An accepted log runs the two channels given with it" and "The bench program".
-use Prim.Native.Nat.{ℕ, _+_}
+use Prim.Native.Nat.{ℕ, _+_, _*_}
 use mathlib.Core.Path.{_≡_}
 use mathlib.Core.Bool.{Bool, cond}
-use mathlib.Core.List.{List, [], _∷_}
+use mathlib.Core.List.{List, [], _∷_, _++_}
 use lib.ListN.{length, drop}
 use Rattle.refusal.specs.declared.Refusal.the-variants.{WrongLog}
 use Rattle.refusal.specs.declared.Part.the-variants.{ListA, ListB, Log}
@@ -17,7 +17,10 @@ use Rattle.state.specs.State.{freshState}
 use Rattle.device.specs.Device.{deviceOf}
 use Rattle.list.specs.declared.ListRead.{ListRead}
 use Rattle.list.specs.declared.ListAnswer as A
-use Rattle.log.specs.Run.{Both}
+use Rattle.channel.specs.declared.Channel.{Channel}
+use Rattle.channel.specs.Cycle.{withState}
+use Rattle.log.specs.declared.LogAnswer.the-variants.{Accepted}
+use Rattle.log.specs.Run.{Both, Ran, bothOf}
 use Rattle.listing.specs.Listing.{Said, ran, refused, textOf}
 use Rattle.kit_bytes.specs.KitBytes.{wholeWords, wordsOf}
 use Rattle.headed_51.specs.Lists.{read51, widened}
@@ -54,6 +57,17 @@ module _ (da db : MachineData) where
       let a = word51 da (x .a) (givenA51 x r) in
       let b = word51 db (x .b) (givenB51 x r) in
       a ∷ b ∷ deviceOf a b ∷ lines51 (both51 x r) rs
+
+-- what an accepted log leaves; its refusals look at no list
+abbrev pub running51 : Channel → Channel → List ℕ → List CycleRecord → Ran
+running51 a b out rs =
+    let last = last51 (a .list) (b .list) (bothOf a b) rs in
+    record {
+      answer = Accepted (length rs);
+      a = withState a (last .a);
+      b = withState b (last .b);
+      out = lines51 (a .list) (b .list) (bothOf a b) rs ++ drop (3 * length rs) out;
+    }
 
 -- ---- a kit
 

@@ -41,7 +41,7 @@ unfoldable pub differingIn : State → Given → ℕ
 differingIn s g = runOf (s .kept .differing) (g .reading) (g .report)
 
 -- "10 position differs from the report by more than datum 26"; "11 input words differ in more than datum 28 usable cycles running";
--- "12 datum k differs"
+-- "12 datum k differs", W1: "also .. where heads differ"
 unfoldable pub differencesIn : MachineData → State → Given → Differences
 differencesIn m s g =
     record {

@@ -19,8 +19,8 @@ use Rattle.demand_3.specs.Calls.{Side, own, Call, single, logged}
 
 -- ---- the cycles and reports of the calls
 
--- "In a log the report is the other channel's: position and input word from the log, datum k by the data and k of the channel given", W1: and its head: what a record gives
--- the working channel, beside a channel with list m at k
+-- "In a log the report is the other channel's: position and input word from the log, datum k by the data and k of the channel given", and its head (W1):
+-- what a record gives the working channel, beside a channel with list m at k
 abbrev pub givenOf : Side → MachineData → ℕ → CycleRecord → Given
 givenOf s m k r = record { reading = own s (r .a) (r .b); acknowledged = r .acknowledged; report = reportOf m k (own s (r .b) (r .a)) }
 

@@ -8,6 +8,7 @@ use borrow.Author.Tests.{lt-ltb, le-leb, eq-eqb, ltb-true, ltb-false, eqb-true, 
 use lib.ListN.{getD}
 use lib.IntN.{ℤ, pos, natAbs, _-ℤ_}
 use lib.Dec.{leb, ltb, eqb}
+use Rattle.laws.proofs.Bools.{and-false}
 use Rattle.bits.specs.Bits.{fieldOf}
 use Rattle.machine_data.specs.declared.MachineData.{MachineData}
 use Rattle.machine_data.specs.Data.{numberOf, ratioOf, hasRatios, entryOf}
@@ -81,11 +82,7 @@ next-k-51 k = go (ltb (suc k) 51) refl
   where
     go : (t : Bool) → ltb (suc k) 51 ≡ t → cond (ltb (suc k) 67 && t) (suc k) 0 ≡ cond t (suc k) 0
     go true q = simp (lt-ltb (suc k) 67 (omega (arith, ltb-true (suc k) 51 q)))
-    go false q = none (ltb (suc k) 67)
-      where
-        none : (a : Bool) → cond (a && false) (suc k) 0 ≡ 0
-        none true = refl
-        none false = refl
+    go false q = ap (λ (b : Bool). cond b (suc k) 0) (and-false (ltb (suc k) 67))
 
 module _ (m : MachineData) (h : Headed51 m) where
   lacked-51 : (k : ℕ) → 51 ≤ k → k < 67 → numberOf (m .values) k ≡ 1

@@ -32,7 +32,7 @@ use Rattle.log.specs.declared.LogAnswer.the-variants.{Accepted}
 use Rattle.log.specs.Run.{Both, givenBy, givenA, givenB, deviceCycle, lastOf, linesOf, bothOf, running}
 use Rattle.kit_bytes.specs.KitBytes.{wholeWords, wordsOf}
 use Rattle.listing.specs.Listing.{Said, refused, byLog, byLists, saidOf, said, textOf, listed}
-use Rattle.headed_51.specs.Lists.{read51, widened}
+use Rattle.headed_51.specs.Lists.{read51}
 use Rattle.headed_51.specs.Cycle.{Headed51, next51, word51}
 use Rattle.headed_51.specs.Listing.{given51, givenA51, givenB51, both51, last51, lines51, running51, byLog51, second51, first51, saidOf51, listed51, Ungeared, UngearedKit}
 use Rattle.headed_51.proofs.Lists.{read-51}
@@ -111,7 +111,7 @@ log-same da db ha hb (records rs) = ap Said.ran (lines-51 da db ha hb (record { 
 log-same da db ha hb (fault place) = refl
 
 module _ (words : List ℕ) (plain : UngearedKit words) where
-  read-a : readList words ≡ widened (read51 words)
+  read-a : readList words ≡ read51 words
   read-a = read-51 words (plain .list-a)
 
   answer-a : readList words .answer ≡ read51 words .answer
@@ -122,12 +122,12 @@ module _ (words : List ℕ) (plain : UngearedKit words) where
     plain-b : Ungeared (drop n words)
     plain-b = plain .list-b n (sym answer-a ∙ ea)
 
-    read-b : readList (drop n words) ≡ widened (read51 (drop n words))
+    read-b : readList (drop n words) ≡ read51 (drop n words)
     read-b = read-51 (drop n words) plain-b
 
     by-b : (t : A.ListAnswer) → readList (drop n words) .answer ≡ t →
         byLists words (second n (readList words .list) (readList (drop n words)) t) (second n (readList words .list) (readList (drop n words)) t .answer)
-        ≡ second51 words n (widened (read51 words) .list) (read51 (drop n words)) t
+        ≡ second51 words n (read51 words .list) (read51 (drop n words)) t
     by-b (A.the-variants.Accepted m) eb =
         log-same (readList words .list) (readList (drop n words) .list) (headed words n (plain .list-a) ea) (headed (drop n words) m plain-b eb) (logOf (drop (n + m) words))
         ∙ (λ i. byLog51 (read-a i .list) (read-b i .list) (logOf (drop (n + m) words)))
@@ -136,7 +136,7 @@ module _ (words : List ℕ) (plain : UngearedKit words) where
   by-a : (t : A.ListAnswer) → readList words .answer ≡ t → byLists words (first words (readList words) t) (first words (readList words) t .answer) ≡ first51 words (read51 words) t
   by-a (A.the-variants.Accepted n) ea =
       by-b n ea (readList (drop n words) .answer) refl
-      ∙ ap (second51 words n (widened (read51 words) .list) (read51 (drop n words))) (ap (λ (r : ListRead). r .answer) (read-b n ea))
+      ∙ ap (second51 words n (read51 words .list) (read51 (drop n words))) (ap (λ (r : ListRead). r .answer) (read-b n ea))
   by-a (A.the-variants.Refused why) ea = refl
 
   kit-same : saidOf words ≡ saidOf51 words

@@ -1,16 +1,16 @@
--- A list that is not headed 67 is read as before W1: the same answer, and the same data in the front. Assumes nothing.
+-- A list that is not headed 67 is read as before W1. Assumes nothing.
 use mathlib.Core.Path.{_≡_, refl, sym, ap, _∙_, subst}
 use mathlib.Core.Bool.{Bool, true, false, cond, _&&_, _||_}
 use mathlib.Core.List.{List, [], _∷_, _++_}
 use Prim.Native.Nat.{ℕ, zero, suc, _+_, _≤_, _<_}
 use native.Mathlib.Omega.{arith}
-use lib.ListN.{length, getD, set, replicate, length-set, length-replicate, List·getD-append}
+use lib.ListN.{getD, set}
 use lib.IntN.{ℤ, pos}
-use lib.Seq.{set-append-left}
-use lib.Signed.{leZ, ltZ}
+use lib.Signed.{leZ}
 use lib.Dec.{T, leb, eqb}
 use borrow.Author.Tests.{lt-ltb, le-leb, leb-true, eqb-true}
-use Rattle.refusal.specs.declared.Refusal.the-variants.{WrongWord, SeEnds, OutOfRange}
+use Rattle.laws.proofs.Bools.{or-left, or-right}
+use Rattle.refusal.specs.declared.Refusal.the-variants.{WrongWord, OutOfRange}
 use Rattle.words.specs.declared.Word.{Word}
 use Rattle.words.specs.declared.Word.the-variants as W
 use Rattle.words.specs.Words.{wordAt}
@@ -22,10 +22,9 @@ use Rattle.datum.specs.declared.Units as U
 use Rattle.datum.specs.declared.DatumAnswer as D
 use Rattle.datum.specs.Datum.{ofUnits, ofRead, unitsOf, datumAt, valueAt}
 use Rattle.list.specs.declared.ListRead.{ListRead}
-use Rattle.list.specs.Rules.{isHead, seBelow}
-use Rattle.list.specs.Reading.{acceptedList, refusedList, placeOf, ends, onValue, gather, zeros, readList}
-use Rattle.list.specs.IsList.{filled}
-use Rattle.headed_51.specs.Lists.{inRange51, ofUnits51, ofRead51, value51, accepted51, refused51, ends51, onValue51, gather51, read51, widened}
+use Rattle.list.specs.Rules.{isHead}
+use Rattle.list.specs.Reading.{refusedList, onValue, gather, zeros, readList}
+use Rattle.headed_51.specs.Lists.{inRange51, ofUnits51, ofRead51, value51, gather51, read51}
 use Rattle.headed_51.specs.Listing.{Ungeared}
 
 -- ---- a datum
@@ -50,12 +49,8 @@ reaches-down [] j k h t = absurd t
 reaches-down (r ∷ rs) j k h t = go (leb j (r .last)) refl t (reaches-down rs j k h)
   where
     go : (b : Bool) → leb j (r .last) ≡ b → T (b || reaches rs j) → (T (reaches rs j) → T (reaches rs k)) → T (leb k (r .last) || reaches rs k)
-    go true q t rest = subst (λ (x : Bool). T (x || reaches rs k)) (sym (le-leb k (r .last) (omega (arith, h, leb-true j (r .last) q)))) tt
-    go false q t rest = or-second (leb k (r .last)) (rest t)
-      where
-        or-second : (x : Bool) → T (reaches rs k) → T (x || reaches rs k)
-        or-second true t = tt
-        or-second false t = t
+    go true q t rest = or-left (leb k (r .last)) (reaches rs k) (subst T (sym (le-leb k (r .last) (omega (arith, h, leb-true j (r .last) q)))) tt)
+    go false q t rest = or-right (leb k (r .last)) (reaches rs k) (rest t)
 
 pub row-51 : (k : ℕ) → k < 51 → rowOf rows k ≡ rowOf baseRows k
 row-51 k h = row-front baseRows gearRows k (reaches-down baseRows 50 k (omega (arith, h)) tt)
@@ -84,55 +79,39 @@ module _ (s : List ℕ) (k at : ℕ) (h : k < 51) where
 
 -- ---- the data one by one
 
-se-51 : (vs : List ℤ) (k : ℕ) → suc k < length vs → seBelow (filled 51 vs) k ≡ seBelow vs k
-se-51 vs k low = let more = replicate 16 (pos 0) in λ i. ltZ (List·getD-append vs more (pos 0) k (omega (arith, low)) i) (List·getD-append vs more (pos 0) (suc k) low i)
-
-pub gather-51 : (i : ℕ) (s : List ℕ) (k at : ℕ) (acc : List ℤ) → i + k ≡ 51 → length acc ≡ 51 → gather i s k at (filled 51 acc) ≡ widened (gather51 i s k at acc)
-unfolding gather gather51 ends ends51
-gather-51 zero s k at acc c l = simp (se-51 acc 11 (omega (arith, l)), se-51 acc 13 (omega (arith, l))) (go (seBelow acc 11) (seBelow acc 13))
+gather-51 : (i : ℕ) (s : List ℕ) (k at : ℕ) (vs : List ℤ) → i + k ≡ 51 → gather i s k at vs ≡ gather51 i s k at vs
+unfolding gather gather51
+gather-51 zero s k at vs c = refl
+gather-51 (suc i) s k at vs c =
+    ap (λ (t : D.DatumAnswer). onValue t (λ z next. gather i s (k + 1) next (set vs k z))) (value-51 s k at (omega (arith, c)))
+    ∙ go (value51 s k at) (λ z next. gather-51 i s (k + 1) next (set vs k z) (omega (arith, c)))
   where
-    go : (a b : Bool) →
-        cond a (cond b (acceptedList (record { values = filled 51 acc; count = k }) at) (refusedList (SeEnds (placeOf s 13)))) (refusedList (SeEnds (placeOf s 11)))
-        ≡ widened (cond a (cond b (accepted51 (record { values = acc; count = k }) at) (refused51 (SeEnds (placeOf s 13)))) (refused51 (SeEnds (placeOf s 11))))
-    go false b = refl
-    go true false = refl
-    go true true = refl
-gather-51 (suc i) s k at acc c l =
-    ap (λ (t : D.DatumAnswer). onValue t (λ z next. gather i s (k + 1) next (set (filled 51 acc) k z))) (value-51 s k at (omega (arith, c)))
-    ∙ go (value51 s k at) (λ z next. gather-51 i s (k + 1) next (set acc k z) (omega (arith, c)) (length-set acc k z ∙ l))
-  where
-    go : (t : D.DatumAnswer) → ((z : ℤ) (next : ℕ) → gather i s (k + 1) next (filled 51 (set acc k z)) ≡ widened (gather51 i s (k + 1) next (set acc k z))) →
-        onValue t (λ z next. gather i s (k + 1) next (set (filled 51 acc) k z)) ≡ widened (onValue51 t (λ z next. gather51 i s (k + 1) next (set acc k z)))
-    go (D.the-variants.Value z next) rest = ap (gather i s (k + 1) next) (set-append-left acc _ k z (omega (arith, c, l))) ∙ rest z next
+    go : (t : D.DatumAnswer) → ((z : ℤ) (next : ℕ) → gather i s (k + 1) next (set vs k z) ≡ gather51 i s (k + 1) next (set vs k z)) →
+        onValue t (λ z next. gather i s (k + 1) next (set vs k z)) ≡ onValue t (λ z next. gather51 i s (k + 1) next (set vs k z))
+    go (D.the-variants.Value z next) rest = rest z next
     go (D.the-variants.Refused why) rest = refl
 
 -- ---- the head
 
-by-word : (x : Word) (held : ℕ → ListRead) (other : ListRead) (held51 : ℕ → ListRead) (other51 : ListRead) →
-    other ≡ widened other51 → ((n : ℕ) → x ≡ W.Head n → held n ≡ widened (held51 n)) → ifHead x held other ≡ widened (ifHead x held51 other51)
-by-word x held other held51 other51 o =
-    elim x [ W.Head n ↦ λ h. h n refl | W.Datum k f ↦ λ h. o | W.Piece b ↦ λ h. o | W.Position z ↦ λ h. o | W.Lower b ↦ λ h. o | W.Upper b ↦ λ h. o | W.End a ↦ λ h. o | W.Remark ↦ λ h. o | W.Other ↦ λ h. o ]
+by-word : (x : Word) (held held51 : ℕ → ListRead) (other : ListRead) → ((n : ℕ) → x ≡ W.Head n → held n ≡ held51 n) → ifHead x held other ≡ ifHead x held51 other
+by-word x held held51 other =
+    elim x [ W.Head n ↦ λ h. h n refl | W.Datum k f ↦ λ h. refl | W.Piece b ↦ λ h. refl | W.Position z ↦ λ h. refl | W.Lower b ↦ λ h. refl | W.Upper b ↦ λ h. refl | W.End a ↦ λ h. refl | W.Remark ↦ λ h. refl | W.Other ↦ λ h. refl ]
 
-pub read-51 : (s : List ℕ) → Ungeared s → readList s ≡ widened (read51 s)
+pub read-51 : (s : List ℕ) → Ungeared s → readList s ≡ read51 s
 unfolding readList read51
 read-51 s plain =
     by-word (wordAt s 0)
     (λ n. cond (isHead n) (gather n s 0 1 zeros) (refusedList (WrongWord 0)))
+    (λ n. cond (eqb n 51) (gather51 n s 0 1 zeros) (refusedList (WrongWord 0)))
     (refusedList (WrongWord 0))
-    (λ n. cond (eqb n 51) (gather51 n s 0 1 (replicate 51 (pos 0))) (refused51 (WrongWord 0)))
-    (refused51 (WrongWord 0))
-    refl
     headed
   where
-    all-data : (n : ℕ) → n ≡ 51 → gather n s 0 1 zeros ≡ widened (gather51 n s 0 1 (replicate 51 (pos 0)))
-    all-data n e = gather-51 n s 0 1 (replicate 51 (pos 0)) (omega (arith, e)) (length-replicate 51 (pos 0))
-
     headed : (n : ℕ) → wordAt s 0 ≡ W.Head n →
-        cond (isHead n) (gather n s 0 1 zeros) (refusedList (WrongWord 0)) ≡ widened (cond (eqb n 51) (gather51 n s 0 1 (replicate 51 (pos 0))) (refused51 (WrongWord 0)))
+        cond (isHead n) (gather n s 0 1 zeros) (refusedList (WrongWord 0)) ≡ cond (eqb n 51) (gather51 n s 0 1 zeros) (refusedList (WrongWord 0))
     headed n word = go (eqb n 51) refl (eqb n 67) refl
       where
         go : (t : Bool) → eqb n 51 ≡ t → (u : Bool) → eqb n 67 ≡ u →
-            cond (t || (u || false)) (gather n s 0 1 zeros) (refusedList (WrongWord 0)) ≡ widened (cond t (gather51 n s 0 1 (replicate 51 (pos 0))) (refused51 (WrongWord 0)))
-        go true q u r = all-data n (eqb-true n 51 q)
+            cond (t || (u || false)) (gather n s 0 1 zeros) (refusedList (WrongWord 0)) ≡ cond t (gather51 n s 0 1 zeros) (refusedList (WrongWord 0))
+        go true q u r = gather-51 n s 0 1 zeros (omega (arith, eqb-true n 51 q))
         go false q true r = absurd (plain (word ∙ ap W.Head (eqb-true n 67 r)))
         go false q false r = refl

@@ -23,7 +23,7 @@ use Rattle.log.specs.declared.LogAnswer.the-variants.{Accepted}
 use Rattle.log.specs.Run.{Both, Ran, bothOf}
 use Rattle.listing.specs.Listing.{Said, ran, refused, textOf}
 use Rattle.kit_bytes.specs.KitBytes.{wholeWords, wordsOf}
-use Rattle.headed_51.specs.Lists.{read51, widened}
+use Rattle.headed_51.specs.Lists.{read51}
 use Rattle.headed_51.specs.Cycle.{entry51, next51, word51}
 
 -- "position and input word from the log, datum k by the data and k of the channel given"; nothing in Cycle.antt looks at the head
@@ -76,11 +76,11 @@ byLog51 a b (records rs) = ran (lines51 a b (record { a = freshState; b = freshS
 byLog51 a b (fault place) = refused (WrongLog place) Log
 
 abbrev pub second51 : List ℕ → ℕ → MachineData → ListRead → A.ListAnswer → Said
-second51 words n a r (A.the-variants.Accepted m) = byLog51 a (widened r .list) (logOf (drop (n + m) words))
+second51 words n a r (A.the-variants.Accepted m) = byLog51 a (r .list) (logOf (drop (n + m) words))
 second51 words n a r (A.the-variants.Refused why) = refused why ListB
 
 abbrev pub first51 : List ℕ → ListRead → A.ListAnswer → Said
-first51 words r (A.the-variants.Accepted n) = second51 words n (widened r .list) (read51 (drop n words)) (read51 (drop n words) .answer)
+first51 words r (A.the-variants.Accepted n) = second51 words n (r .list) (read51 (drop n words)) (read51 (drop n words) .answer)
 first51 words r (A.the-variants.Refused why) = refused why ListA
 
 -- "The words behind list A are handed on as list B, those behind B are the log"

@@ -1,26 +1,22 @@
--- A list as it was read before W1: document 01, "Machine data" and "Words".
+-- A list as it was read before W1: document 01, "Machine data" and "Words". Its data stand in the first 51 of the places that there are now; the others
+-- hold 0, as they do in a refused list.
 use Prim.Native.Nat.{ℕ, zero, suc, _+_}
 use mathlib.Core.Bool.{Bool, cond, _&&_}
 use mathlib.Core.List.{List}
-use lib.ListN.{set, replicate}
-use lib.IntN.{ℤ, pos}
+use lib.ListN.{set}
+use lib.IntN.{ℤ}
 use lib.Signed.{leZ}
 use lib.Dec.{ltb, eqb}
-use Rattle.refusal.specs.declared.Refusal.{Refusal}
-use Rattle.refusal.specs.declared.Refusal.the-variants.{WrongWord, SeEnds, OutOfRange}
+use Rattle.refusal.specs.declared.Refusal.the-variants.{WrongWord, OutOfRange}
 use Rattle.words.specs.Words.{wordAt}
 use Rattle.words.specs.Cases.{ifHead}
 use Rattle.ranges.specs.Table.{baseRows, rowOf}
-use Rattle.machine_data.specs.declared.MachineData.{MachineData}
 use Rattle.datum.specs.declared.DatumRead as R
 use Rattle.datum.specs.declared.Units as U
 use Rattle.datum.specs.declared.DatumAnswer as D
 use Rattle.datum.specs.Datum.{unitsOf, datumAt}
 use Rattle.list.specs.declared.ListRead.{ListRead}
-use Rattle.list.specs.declared.ListAnswer as A
-use Rattle.list.specs.Rules.{seBelow}
-use Rattle.list.specs.Reading.{placeOf}
-use Rattle.list.specs.IsList.{filled}
+use Rattle.list.specs.Reading.{zeros, refusedList, ends, onValue}
 
 -- "51 data, numbers 0 to 50", by document 01's table
 abbrev pub inRange51 : ℕ → ℤ → Bool
@@ -38,33 +34,11 @@ ofRead51 k at (R.the-variants.Bad place) = D.the-variants.Refused (WrongWord pla
 unfoldable pub value51 : List ℕ → ℕ → ℕ → D.DatumAnswer
 value51 s k at = ofRead51 k at (datumAt s k at)
 
-abbrev pub accepted51 : MachineData → ℕ → ListRead
-accepted51 d n = record { answer = A.the-variants.Accepted n; list = d }
-
--- a refused list has no data
-abbrev pub refused51 : Refusal → ListRead
-refused51 why = record { answer = A.the-variants.Refused why; list = record { values = replicate 51 (pos 0); count = 0 } }
-
--- "then 5, SE1 first"
-unfoldable pub ends51 : List ℕ → MachineData → ℕ → ListRead
-ends51 s d n =
-    cond (seBelow (d .values) 11)
-    (cond (seBelow (d .values) 13) (accepted51 d n) (refused51 (SeEnds (placeOf s 13))))
-    (refused51 (SeEnds (placeOf s 11)))
-
-abbrev pub onValue51 : D.DatumAnswer → (ℤ → ℕ → ListRead) → ListRead
-onValue51 (D.the-variants.Value z next) f = f z next
-onValue51 (D.the-variants.Refused why) f = refused51 why
-
 -- "The first faulty datum gives the answer"
 unfoldable pub gather51 : ℕ → List ℕ → ℕ → ℕ → List ℤ → ListRead
-gather51 zero s k at vs = ends51 s (record { values = vs; count = k }) at
-gather51 (suc n) s k at vs = onValue51 (value51 s k at) (λ z next. gather51 n s (k + 1) next (set vs k z))
+gather51 zero s k at vs = ends s (record { values = vs; count = k }) at
+gather51 (suc n) s k at vs = onValue (value51 s k at) (λ z next. gather51 n s (k + 1) next (set vs k z))
 
 -- "list head, value 51"; "A list is a head and the data in number order"
 unfoldable pub read51 : List ℕ → ListRead
-read51 s = ifHead (wordAt s 0) (λ n. cond (eqb n 51) (gather51 n s 0 1 (replicate 51 (pos 0))) (refused51 (WrongWord 0))) (refused51 (WrongWord 0))
-
--- what was read, with the places that a longer list fills besides
-abbrev pub widened : ListRead → ListRead
-widened r = record { answer = r .answer; list = record { values = filled 51 (r .list .values); count = r .list .count } }
+read51 s = ifHead (wordAt s 0) (λ n. cond (eqb n 51) (gather51 n s 0 1 zeros) (refusedList (WrongWord 0))) (refusedList (WrongWord 0))

@@ -70,9 +70,6 @@ among-fitting (m ∷ ms) n f = go (eqb n m) refl (among-fitting ms n (and-r (leb
 pub head-bounds : (n : ℕ) → T (isHead n) → (51 ≤ n) × (n ≤ dataCount)
 head-bounds n t = among-fitting heads n tt t
 
-pub head-count : (n : ℕ) {t : Bool} → t ≡ isHead n → t ≡ true → n ≤ dataCount
-head-count n e t = head-bounds n (subst T (sym (sym e ∙ t)) tt) .1
-
 -- ---- the data one by one
 
 pub begun : (s : List ℕ) (count : ℕ) → gather (count - 0) s 0 1 zeros ≡ gather count s 0 1 zeros

@@ -1,4 +1,4 @@
--- What a list is, with nothing said of how it is read: document 01, "Words".
+-- What a list is, with nothing said of how it is read: document 01, "Words", and W1.
 use Prim.Native.Nat.{ℕ, suc, _-_}
 use mathlib.Core.Path.{_≡_}
 use mathlib.Core.List.{List, [], _∷_, _++_}

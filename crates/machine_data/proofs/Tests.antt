@@ -5,13 +5,16 @@ use mathlib.Core.Bool.{true, false}
 use Prim.Native.Nat.{ℕ, _<_}
 use lib.ListN.{getD}
 use lib.IntN.{ℤ, pos, negsuc, natAbs}
-use lib.Signed.{ltZ, nonNeg}
+use lib.Signed.{ltZ, nonNeg, mag}
 use lib.Dec.{T}
 use native.Mathlib.Omega.{arith}
 use borrow.Author.Tests.{lt-ltb, ltb-true}
+use mir.Syntax.{w32}
+use mir.Val.{toZ, ofZ}
+use mir.ValLaws.{toZ-ofZ}
 use Rattle.ranges.specs.Table.{dataCount, lowOf, highOf}
 use Rattle.ranges.proofs.Tests.{same-test}
-use Rattle.machine_data.specs.Data.{nearest, datumOf, size}
+use Rattle.machine_data.specs.Data.{nearest, datumOf, size, numberOf}
 
 -- a, b and c are z and the ends as the machine has them
 module _ (k : ℕ) (h : k < dataCount) (z a b c : ℤ) (ea : a ≡ z) (eb : b ≡ lowOf k) (ec : c ≡ highOf k) (d : List ℤ) (at : getD d k (pos 0) ≡ z) where
@@ -49,3 +52,8 @@ at-least-zero a z e q = ap natAbs e ∙ go z (sym (ap (λ (y : ℤ). ltZ y (pos 
 pub unsigned : (a : ℤ) → ltZ a (pos 0) ≡ false → T (nonNeg a)
 unsigned (pos n) h = tt
 unsigned (negsuc n) h = let z : _≡_ {A = ℕ} 0 1 = cc in absurd (omega arith)
+
+-- a datum that is read in 32 bits and taken as a number
+pub number-read : (d : List ℤ) (k : ℕ) {z : ℤ} {n : ℕ} → n ≡ size (toZ w32 (ofZ w32 z)) → mag z < 2147483648 → z ≡ datumOf d k → n ≡ numberOf d k
+unfolding numberOf
+number-read d k {z} e fits is = e ∙ ap size (toZ-ofZ w32 z (record { sfits = fits }) ∙ is)

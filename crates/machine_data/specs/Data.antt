@@ -1,4 +1,4 @@
--- How a datum is read from the values of a list. In every list that is accepted a datum is read as it stands
+-- How a datum is read from the values of a list. A datum that an accepted list has is read as it stands
 -- (proofs/Stands.antt). What no list can bring is read as the nearer end of its range, so that each channel has a next cycle, and so is the 0 that
 -- stands for a datum which a shorter list lacks (`lacks` in proofs/Lacks.antt).
 use Prim.Native.Nat.{ℕ, _+_, _%_, _<_}

@@ -27,7 +27,7 @@ abbrev level : (ℕ → ℤ) → ℤ → ℕ → ℕ → Bool
 level f v a zero = true
 level f v a (suc n) = same v (f a) && level f v (suc a) n
 
-pub along : (f : ℕ → ℤ) (v : ℤ) (a n k : ℕ) → T (level f v a n) → a ≤ k → k < a + n → v ≡ f k
+along : (f : ℕ → ℤ) (v : ℤ) (a n k : ℕ) → T (level f v a n) → a ≤ k → k < a + n → v ≡ f k
 along f v a zero k t h l = absurd (omega (arith, h, l))
 along f v a (suc n) k t h l = go (ltb a k) refl (λ later. along f v (suc a) n k (and-r (same v (f a)) (level f v (suc a) n) t) later (omega (arith, l)))
   where
@@ -36,8 +36,12 @@ along f v a (suc n) k t h l = go (ltb a k) refl (λ later. along f v (suc a) n k
     go false q later = same-is v (f a) (and-l (same v (f a)) (level f v (suc a) n) t) ∙ ap f (omega (arith, h, ltb-false a k q))
 
 -- both ends along a stretch of numbers
-pub range-along : (low high : ℤ) (a n k : ℕ) → T (level lowOf low a n) → T (level highOf high a n) → a ≤ k → k < a + n → record { low = low; high = high } ≡ rangeOf k
-range-along low high a n k lows highs h l = λ i. record { low = along lowOf low a n k lows h l i; high = along highOf high a n k highs h l i }
+module _ (low high : ℤ) (a n k : ℕ) (lows : T (level lowOf low a n)) (highs : T (level highOf high a n)) (h : a ≤ k) (l : k < a + n) where
+  pub ends-along : (low ≡ lowOf k) × (high ≡ highOf k)
+  ends-along = (along lowOf low a n k lows h l, along highOf high a n k highs h l)
+
+  pub range-along : record { low = low; high = high } ≡ rangeOf k
+  range-along = λ i. record { low = ends-along .0 i; high = ends-along .1 i }
 
 -- no row goes as far as datum n
 abbrev short : List Row → ℕ → Bool

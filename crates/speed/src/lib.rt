@@ -36,7 +36,7 @@ pub fn sg_speed(values: &Values, sg: Sg) -> u64
     machine_data::sg_limit(values, sg.number) * sg_percent(values, sg)
 }
 
-// The load's step, times the denominator.
+// The load's step, times the denominator: no more than 32 bits times 16 hold.
 fn load_step(step: Step) -> u64
     ensures { λ r. ⌜ r ≡ loadStep step ⌝ }
     ensures { λ r. ⌜ r ≤ 281470681677825 ⌝ }
@@ -45,7 +45,7 @@ fn load_step(step: Step) -> u64
     (step.moved as u64) * (ratio.numerator as u64)
 }
 
-// The cycle's length, times the denominator.
+// The cycle's length, times the denominator: no more than 25 times 16 bits hold.
 fn load_time(values: &Values, step: Step) -> u64
     ensures { λ r. ⌜ r ≡ loadTime (now (values .entry)) step ⌝ }
     ensures { λ r. ⌜ r ≤ 1638375 ⌝ }

@@ -1,9 +1,9 @@
 -- `list::read_list` meets its contract. Assumes nothing.
-use mathlib.Core.Path.{sym, _∙_}
-use native.Mathlib.Omega.{arith}
+use mathlib.Core.Path.{sym, _∙_, subst}
+use lib.Dec.{T}
 use denote.Ref.{now}
 use borrow.Author.Needs.{needs}
-use Rattle.list.proofs.Steps.{no-head-word, by-head, head-count}
+use Rattle.list.proofs.Steps.{no-head-word, by-head, head-bounds}
 use Rattle.list.proofs.read_list.Statement.{statement}
 use Rattle.list.proofs.read_list.Tie as tie
 
@@ -26,7 +26,7 @@ cast-data-from : tie.Need-cast-data-from
 cast-data-from c = search needs
 
 data-from-requires : tie.Need-data-from-requires
-data-from-requires c κs = omega (arith, head-count (c .before .before .before .n .given .0 .0) (c .before .is-head .ensures) (c .if1 .taken))
+data-from-requires c κs = head-bounds _ (subst T (sym (sym (c .before .is-head .ensures) ∙ c .if1 .taken)) tt) .1
 
 refused-requires-2 : tie.Need-refused-requires-2
 refused-requires-2 c κs = search needs

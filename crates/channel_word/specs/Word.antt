@@ -10,16 +10,11 @@ use Rattle.speed.specs.declared.Step.{Step}
 use Rattle.speed.specs.Speed.{slower}
 use Rattle.selection.specs.declared.Selection.{Selection}
 use Rattle.selection.specs.declared.Selection.the-variants.{Nothing, Sg, Sbh}
+use Rattle.selection.specs.Selection.{isEffective}
 use Rattle.stop.specs.declared.Stop.{Stop}
 use Rattle.stop.specs.declared.Stop.the-variants.{Free, Braking, Held, Cancelled}
 use Rattle.rank.specs.Rank.{rankNumber}
 use Rattle.stop.specs.Stop.{rankOf}
-
--- "bit 0 SBH or SG effective"
-abbrev pub isEffective : Selection → Bool
-isEffective Nothing = false
-isEffective (Sg n o) = true
-isEffective Sbh = true
 
 -- "19-20 effective SG less one, else 0"
 abbrev pub shownSg : Selection → ℕ

@@ -1,7 +1,8 @@
 // The channel word.
 ghost use mathlib.Core.Path.{_≡_};
 ghost use Rattle.bits.specs.Bits.{flag};
-ghost use Rattle.channel_word.specs.Word.{isEffective, shownSg, isHeld, shownCams, belowNx, placed, Parts, wordBy};
+ghost use Rattle.selection.specs.Selection.{isEffective};
+ghost use Rattle.channel_word.specs.Word.{shownSg, isHeld, shownCams, belowNx, placed, Parts, wordBy};
 use machine_data::Values;
 use machine_data::functions;
 use machine_data::numbers;

@@ -18,6 +18,7 @@ use Rattle.rank.specs.declared.Rank.the-variants.{None, A}
 use Rattle.rank.specs.Rank.{rankNumber}
 use Rattle.stop.specs.Stop.{levelOf, outranks}
 use Rattle.comparison.specs.Comparison.{expired, clearedFault}
+use Rattle.active.specs.Active.{active, faultStops}
 use Rattle.causes.specs.declared.Cause.{Cause}
 use Rattle.causes.specs.Causes.{freshOf, cause}
 use Rattle.state.specs.declared.State.{State}
@@ -46,7 +47,7 @@ pub record Ready (m : MachineData) (s : State) : Type 0 where
 pub record Sound (m : MachineData) (s : State) : Type 0 where
   pub formed : WellFormed (m .values) (s .stop)
   pub left : s .kept .fault .left ≤ numberOf (m .values) 34
-  pub expired : 2000 ≤ brightness (s .kept .fault) → 4 ≤ levelOf (s .stop)
+  pub expired : 2000 ≤ brightness (s .kept .fault) → T (active (m .values) (s .kept .choice .effective)) → 4 ≤ levelOf (s .stop)
   pub delay : s .kept .choice .left ≤ max 1 (numberOf (m .values) 27)
   pub numbered : sgLessOne (s .kept .choice .effective) < 4
 
@@ -60,9 +61,9 @@ fresh-ready m = record { counting = Counting.free; left = omega arith; delay = o
 unfoldable pub alarm : State → ℕ
 alarm s = max (brightness (s .kept .fault)) (2000 * (levelOf (s .stop) / 5))
 
-pub alarm-ends : (m : MachineData) (s : State) → Sound m s → 2000 ≤ alarm s → 4 ≤ levelOf (s .stop)
+pub alarm-ends : (m : MachineData) (s : State) → Sound m s → T (active (m .values) (s .kept .choice .effective)) → 2000 ≤ alarm s → 4 ≤ levelOf (s .stop)
 unfolding alarm
-alarm-ends m s q h = by-cases (decLe 2000 (brightness (s .kept .fault))) (λ l. q .expired l) (λ l. omega arith)
+alarm-ends m s q a h = by-cases (decLe 2000 (brightness (s .kept .fault))) (λ l. q .expired l a) (λ l. omega arith)
 
 module _ (m : MachineData) (s : State) (g : Given) where
   abbrev d : List ℤ
@@ -101,9 +102,17 @@ module _ (m : MachineData) (s : State) (g : Given) where
       let x = differencesIn m s g in
       by-table (λ l. T (causeOf 10 l .stands) → T (anyDiffers x)) (λ u t. or-left (x .position || x .inputs) (x .datum) (or-left (x .position) (x .inputs) t)) (λ u t. absurd t)
 
-  rank-13 : usableOf m (g .reading) ≡ true → T (expired (faultIn m s g)) → 4 ≤ rankNumber (strongestIn m s g)
-  unfolding strongestIn rowsOf usableRows causeOf
-  rank-13 u t = simp u (no-stronger 13 (usableRows m s g) t)
+  -- one of SBH, SG, SE and cams is active
+  abbrev Active : Type 0
+  Active = T (active d (choiceIn m s g .effective))
+
+  rank-13 : usableOf m (g .reading) ≡ true → T (expired (faultIn m s g)) → Active → 4 ≤ rankNumber (strongestIn m s g)
+  unfolding strongestIn rowsOf usableRows causeOf faultStops
+  rank-13 u t a = simp u (no-stronger 13 (usableRows m s g) (go (expired (faultIn m s g)) t a))
+    where
+      go : (b : Bool) → T b → Active → T (b && active d (choiceIn m s g .effective))
+      go true t a = a
+      go false t a = absurd t
 
   -- ---- the state after a cycle
 
@@ -116,6 +125,10 @@ module _ (m : MachineData) (s : State) (g : Given) where
   pub k-next : next m s g .k ≡ nextK (m .count) (s .k)
   k-next = by-cycle (λ x. x .k ≡ nextK (m .count) (s .k)) (λ _. refl) (λ _. refl)
 
+  pub unusable-level : usableOf m (g .reading) ≡ false → 5 ≤ levelOf (next m s g .stop)
+  unfolding next
+  unusable-level u = simp u (omega arith)
+
   pub grown-next : clearsIn m s g ≡ false → Grown d (strongestIn m s g) (s .stop) (next m s g .stop)
   grown-next e =
       by-cycle (λ x. Grown d (strongestIn m s g) (s .stop) (x .stop))
@@ -125,9 +138,9 @@ module _ (m : MachineData) (s : State) (g : Given) where
   unfolding faultIn
   lit-in = lit d (anyDiffers (differencesIn m s g)) (s .kept .fault)
 
-  -- where F is at its end a usable cycle that does not clear has cause 13
-  ended-strong : usableOf m (g .reading) ≡ true → clearsIn m s g ≡ false → 2000 ≤ brightness (faultIn m s g) → 4 ≤ levelOf (next m s g .stop)
-  ended-strong u c h = omega (arith, rank-13 u (expires (faultIn m s g) h), cause-met m s g c)
+  -- where F is at its end a usable cycle that does not clear, and in which one is active, has cause 13
+  ended-strong : usableOf m (g .reading) ≡ true → clearsIn m s g ≡ false → 2000 ≤ brightness (faultIn m s g) → Active → 4 ≤ levelOf (next m s g .stop)
+  ended-strong u c h a = omega (arith, rank-13 u (expires (faultIn m s g) h) a, cause-met m s g c)
 
   pub sound-next : Ready m s → Sound m (next m s g)
   unfolding brightness choiceIn next
@@ -137,9 +150,10 @@ module _ (m : MachineData) (s : State) (g : Given) where
       left true = omega arith
       left false = lit-in .left (q .left)
 
-      ended : usableOf m (g .reading) ≡ true → (b : Bool) → clearsIn m s g ≡ b → 2000 ≤ brightness (clearedFault b (faultIn m s g)) → 4 ≤ levelOf (next m s g .stop)
-      ended u true c h = omega arith
-      ended u false c h = ended-strong u c h
+      ended : usableOf m (g .reading) ≡ true → (b : Bool) → clearsIn m s g ≡ b → 2000 ≤ brightness (clearedFault b (faultIn m s g)) → Active →
+          4 ≤ levelOf (next m s g .stop)
+      ended u true c h a = omega arith
+      ended u false c h a = ended-strong u c h a
 
       go : (b : Bool) → usableOf m (g .reading) ≡ b → Sound m (next m s g)
       go true u =
@@ -153,7 +167,7 @@ module _ (m : MachineData) (s : State) (g : Given) where
           })
       go false u =
           simp u
-          (record { formed = WellFormed.cancelled; left = q .left; expired = λ _. omega arith; delay = q .delay; numbered = q .numbered })
+          (record { formed = WellFormed.cancelled; left = q .left; expired = λ _ _. omega arith; delay = q .delay; numbered = q .numbered })
 
   -- ---- F, where nothing is cleared
 

@@ -1,5 +1,5 @@
 -- Demand 3, from the bounds over numbered cycles and what the words show of their states. Assumes nothing.
-use Prim.Native.Nat.{ℕ, zero, suc, _≤_, _<_}
+use Prim.Native.Nat.{ℕ, zero, suc, _+_, _≤_, _<_}
 use mathlib.Core.List.{List}
 use mathlib.Core.Logic.{_⊎_, inl, inr, by-cases}
 use mathlib.Core.Path.{_≡_, refl, sym, _∙_, subst}
@@ -10,6 +10,7 @@ use lib.Ieee.Bits.{is-true}
 use lib.ListN.{length}
 use Rattle.bits.specs.Bits.{bitOf}
 use Rattle.machine_data.specs.declared.MachineData.{MachineData}
+use Rattle.machine_data.specs.Data.{numberOf}
 use Rattle.list.specs.Reading.{readList}
 use Rattle.state.specs.declared.State.{State}
 use Rattle.state.specs.declared.Given.{Given}
@@ -69,7 +70,12 @@ module _ (L : ℕ → MachineData) (S : ℕ → State) (G : ℕ → Given) (goes
         unusable-off = λ n m l t i u. device-off m l (H.unusable-off L S G goes n m t (omega arith) u);
         moved-at-once = λ n l t. four-or-five (rankInDevice (device n)) (omega (arith, H.moved-at-once L S G goes n t, device-least n l)) (device-most n l);
         moved-off = λ n m l t i u. device-off m l (H.moved-off L S G goes n m t (omega arith) u);
-        differing-off = λ n m l t i u. device-off m l (H.differing-off L S G goes n m t (omega arith) u);
+        differing-off = λ n m l t i a u.
+            let k = n + numberOf (L n .values) 34 in
+            device-off m l (H.ended-off L S G goes n k m t (omega arith) (a k (omega arith) (omega arith)) i u);
+        ended-at-once = λ n k l t i a u.
+            four-or-five (rankInDevice (device k)) (omega (arith, H.ended-at-once L S G goes n k t i a u, device-least k l)) (device-most k l);
+        ended-off = λ n k m l t i a h u. device-off m l (H.ended-off L S G goes n k m t i a h u);
         binds = λ n w l u h m x q. binds L S G goes (AtLeast m x) n w (is-true _ u) h q;
         binds-by-order = λ n w l u h m x q. binds L S G goes (NoLaxer m x) n w (is-true _ u) h q;
         shown = λ n l. (shown-at n l .effective, shown-at n l .sg);

@@ -14,7 +14,8 @@ use Rattle.selection.specs.declared.Selection.{Selection}
 use Rattle.selection.specs.declared.Selection.the-variants.{Nothing, Sg, Sbh}
 use Rattle.stop.specs.Stop.{rankOf, levelOf}
 use Rattle.state.specs.declared.State.{State}
-use Rattle.channel_word.specs.Word.{isEffective, shownSg, isHeld, placed, shownCams, wordBy}
+use Rattle.selection.specs.Selection.{isEffective}
+use Rattle.channel_word.specs.Word.{shownSg, isHeld, placed, shownCams, wordBy}
 use Rattle.advance.specs.After.{shownWord}
 use Rattle.device.specs.Device.{wordRank}
 use Rattle.demand_3.specs.Claims.{sgLessOne}

@@ -3,11 +3,12 @@
 use Prim.Native.Nat.{ℕ, suc, _+_, _*_, _≤_, _<_}
 use mathlib.Core.Bool.{Bool, true, false}
 use mathlib.Core.Logic.{_⊎_}
-use mathlib.Core.Path.{_≡_, refl}
+use mathlib.Core.Path.{_≡_, refl, sym, subst}
 use native.Mathlib.Omega.{arith}
 use lib.Dec.{T}
 use Rattle.machine_data.specs.declared.MachineData.{MachineData}
 use Rattle.machine_data.specs.Data.{numberOf}
+use Rattle.inputs.specs.Usable.{usableOf}
 use Rattle.selection.specs.declared.Choice.{Choice}
 use Rattle.rank.specs.declared.Rank.{Rank}
 use Rattle.rank.specs.Rank.{rankNumber, timeOf}
@@ -17,13 +18,13 @@ use Rattle.state.specs.declared.Given.{Given}
 use Rattle.channel.specs.Cycle.{strongestIn, clearsIn}
 use Rattle.channel_word.specs.Word.{isHeld}
 use Rattle.demand_2.proofs.Demand2.{no-weaker, cause-met}
-use Rattle.demand_3.specs.Claims.{stateAfter, causeIn, Stands, Clears, Uncleared, entered}
+use Rattle.demand_3.specs.Claims.{stateAfter, causeIn, Stands, Clears, Uncleared, entered, ActiveIn}
 use Rattle.laws.proofs.Bools.{is-false}
 use Rattle.demand_3.proofs.OverTime.{reached}
 use Rattle.demand_3.proofs.OfStop.{time-most, b-time, a-time}
 use Rattle.demand_3.proofs.OfComparison.{fault-time-most}
 use Rattle.demand_3.proofs.Stops.{urgency, Grown, held-at-last, off-at-last, urgent}
-use Rattle.demand_3.proofs.Cycles.{Ready, Sound, sound-next, grown-next, alarm, alarm-ends, Alarmed, alarmed-next, cause-rank, not-cleared, rank-1, rank-9, entered-is}
+use Rattle.demand_3.proofs.Cycles.{Ready, Sound, sound-next, unusable-level, grown-next, alarm, alarm-ends, Alarmed, alarmed-next, cause-rank, not-cleared, rank-1, rank-9, entered-is}
 
 -- ---- what may pass between two cycles
 
@@ -136,16 +137,20 @@ module _ (L : ℕ → MachineData) (S : ℕ → State) (G : ℕ → Given) (goes
   pub moved-off : (n m : ℕ) → Stands L S G n 9 → n + numberOf (L n .values) 32 ≤ m → Quiet n m → level m ≡ 5
   moved-off n m t l u = braking-ends n m (moved-at-once n t) l u
 
-  -- "If cause 10 stands": F comes to its end, then B to its own
-  fault-ends : (n m : ℕ) → Stands L S G n 10 → n + numberOf (L n .values) 34 ≤ m → Quiet n m → 4 ≤ level m
-  fault-ends n m t l u =
+  -- "If cause 10 stands": F comes to its end, then, where one is active, B to its own
+  alarm-reached : (n k : ℕ) → Stands L S G n 10 → n + numberOf (L n .values) 34 ≤ k → Quiet n k → 2000 ≤ alarm (after k)
+  alarm-reached n k t l u =
       let x = alarmed-at n (not-cleared (L n) (S n) (G n) 10 (λ e. omega arith) t) in
-      alarm-ends (L m) (after m) (sound-at m)
-      (reached Calm 2000 (λ i. alarm (after i)) n (numberOf (L n .values) 34) (fault-time-most (L n .values)) (x .lights t)
-      (λ i j c a h. alarmed-at (suc i) (is-false _ c) .sooner j a (omega (arith, goes .passes i .alarming))) m l u)
+      reached Calm 2000 (λ i. alarm (after i)) n (numberOf (L n .values) 34) (fault-time-most (L n .values)) (x .lights t)
+      (λ i j c a h. alarmed-at (suc i) (is-false _ c) .sooner j a (omega (arith, goes .passes i .alarming))) k l u
 
-  pub differing-off : (n m : ℕ) → Stands L S G n 10 → n + numberOf (L n .values) 34 + numberOf (L (n + numberOf (L n .values) 34) .values) 32 ≤ m → Quiet n m →
+  pub ended-at-once : (n k : ℕ) → Stands L S G n 10 → n + numberOf (L n .values) 34 ≤ k → ActiveIn L S G k → Quiet n k → 4 ≤ level k
+  ended-at-once n k t l a u = go (usableOf (L k) (G k .reading)) refl
+    where
+      go : (b : Bool) → usableOf (L k) (G k .reading) ≡ b → 4 ≤ level k
+      go true e = alarm-ends (L k) (after k) (sound-at k) (a (subst T (sym e) tt)) (alarm-reached n k t l u)
+      go false e = omega (arith, unusable-level (L k) (S k) (G k) e)
+
+  pub ended-off : (n k m : ℕ) → Stands L S G n 10 → n + numberOf (L n .values) 34 ≤ k → ActiveIn L S G k → k + numberOf (L k .values) 32 ≤ m → Quiet n m →
       level m ≡ 5
-  differing-off n m t l u =
-      let k = n + numberOf (L n .values) 34 in
-      braking-ends k m (fault-ends n k t (omega arith) (λ i p q. u i p (omega arith))) l (λ i p q. u i (omega arith) q)
+  ended-off n k m t l a h u = braking-ends k m (ended-at-once n k t l a (λ i p q. u i p (omega arith))) h (λ i p q. u i (omega arith) q)

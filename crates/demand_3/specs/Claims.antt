@@ -13,7 +13,7 @@ use Rattle.machine_data.specs.Data.{numberOf}
 use Rattle.inputs.specs.Usable.{usableOf}
 use Rattle.selection.specs.declared.Selection.{Selection}
 use Rattle.selection.specs.declared.Selection.the-variants.{Nothing, Sg, Sbh}
-use Rattle.selection.specs.Selection.{selectedOf, stricter}
+use Rattle.selection.specs.Selection.{selectedOf, stricter, isEffective}
 use Rattle.rank.specs.declared.Rank.{Rank}
 use Rattle.rank.specs.declared.Rank.the-variants.{None}
 use Rattle.rank.specs.Rank.{rankNumber, timeOf}
@@ -21,9 +21,9 @@ use Rattle.causes.specs.declared.Cause.{Cause}
 use Rattle.causes.specs.Causes.{cause}
 use Rattle.state.specs.declared.State.{State}
 use Rattle.state.specs.declared.Given.{Given}
+use Rattle.active.specs.Active.{active}
 use Rattle.judge.specs.Causes.{rowsOf}
 use Rattle.channel.specs.Cycle.{clearsIn, enteredIn, next}
-use Rattle.channel_word.specs.Word.{isEffective}
 use Rattle.device.specs.Device.{wordRank}
 
 -- "A limit in force is overstepped where cause 2, 3 or 4 stands"
@@ -108,6 +108,14 @@ module _ (L : ℕ → MachineData) (S : ℕ → State) (G : ℕ → Given) where
   abbrev pub effective : ℕ → Selection
   effective n = stateAfter n .kept .choice .effective
 
+  -- W2: where cycle n is usable, "one of these is active" in it
+  abbrev pub ActiveIn : ℕ → Type 0
+  ActiveIn n = T (usableOf (L n) (G n .reading)) → T (active (L n .values) (effective n))
+
+  -- "throughout": from n up to m
+  abbrev pub ActiveFrom : ℕ → ℕ → Type 0
+  ActiveFrom n m = (i : ℕ) → n ≤ i → i ≤ m → ActiveIn i
+
   -- `size` cycles, and the words given in each
   pub record Claims (size : ℕ) (channel device : ℕ → ℕ) : Type 0 where
     -- "A limit in force is overstepped where cause 2, 3 or 4 stands; the device rank is then at least that cause's rank"
@@ -121,10 +129,15 @@ module _ (L : ℕ → MachineData) (S : ℕ → State) (G : ℕ → Given) where
     pub moved-at-once : (n : ℕ) → n < size → Stands n 9 → (rankInDevice (device n) ≡ 4) ⊎ (rankInDevice (device n) ≡ 5)
     -- "and 5 from n + datum 32 on"
     pub moved-off : (n m : ℕ) → m < size → Stands n 9 → n + numberOf (L n .values) 32 ≤ m → Uncleared n m → rankInDevice (device m) ≡ 5
-    -- "If cause 10 stands in n, the device rank is 5 from n + datum 34 + datum 32 on": the time of F by the list in force in n, and that of B by the one in
-    -- force where it begins
+    -- "If cause 10 stands in n, the device rank is 5 from n + datum 34 + datum 32 on", W2: "for axes on which one of these is active throughout": the time of
+    -- F by the list in force in n, and that of B by the one in force where it begins
     pub differing-off : (n m : ℕ) → m < size → Stands n 10 →
-        n + numberOf (L n .values) 34 + numberOf (L (n + numberOf (L n .values) 34) .values) 32 ≤ m → Uncleared n m → rankInDevice (device m) ≡ 5
+        n + numberOf (L n .values) 34 + numberOf (L (n + numberOf (L n .values) 34) .values) 32 ≤ m → ActiveFrom n m → Uncleared n m → rankInDevice (device m) ≡ 5
+    -- sharper: active in one cycle, n + datum 34 or any later one, k: the device rank is 4 or 5 in k, and 5 from k + datum 32 on
+    pub ended-at-once : (n k : ℕ) → k < size → Stands n 10 → n + numberOf (L n .values) 34 ≤ k → ActiveIn k → Uncleared n k →
+        (rankInDevice (device k) ≡ 4) ⊎ (rankInDevice (device k) ≡ 5)
+    pub ended-off : (n k m : ℕ) → m < size → Stands n 10 → n + numberOf (L n .values) 34 ≤ k → ActiveIn k → k + numberOf (L k .values) 32 ≤ m → Uncleared n m →
+        rankInDevice (device m) ≡ 5
     -- "Where a usable cycle and the last usable ones before it, as many as datum 27 says, all select X or something stricter, the effective selection in it is
     -- X or stricter", by the limits of any list, the one in force among them
     pub binds : (n w : ℕ) → n < size → T (usableOf (L n) (G n .reading)) → Waited L G n w → (m : MachineData) (x : Selection) →

@@ -19,6 +19,8 @@
 --     effective selection in it is X or stricter, and bits 0 and 19-20 of the channel word are those of the effective selection.
 --   - The device rank is never below the channel word's, which is lower than in the cycle before only in a cycle that clears."
 --
+-- Request W2, of cause 10: "The bound on cycles after a position difference then holds for axes on which one of these is active throughout."
+--
 -- How to read these files. This one ends with `Demand3`, the theorem's statement, proved in proofs/Demand3.antt. It speaks of every list of words that the
 -- list reader accepts, of every list of calls, and of all words that these calls may give on the fresh channel: what a call answers is no more than its
 -- function's contract ensures (Calls.antt), and each list of calls has an answer (proofs/Answered.antt). The claim is `Claims` (Claims.antt), a field for
@@ -26,7 +28,8 @@
 -- History.antt), and of the cycles of all the calls, counted from 0, with their reports. Ranks and bits are read from the words that the calls gave and from
 -- nothing else. From n + t on, until one after n clears, is: in every m with n + t ≤ m, if no cycle after n and up to m clears. A datum is read by
 -- `numberOf`, in an accepted list as it stands there (machine_data/proofs/Stands.antt). `binds` takes "X or stricter" as equal to X or stricter by the order
--- of step 3, `binds-by-order` as not laxer than X: two SG of equal limit × percent are neither stricter.
+-- of step 3, `binds-by-order` as not laxer than X: two SG of equal limit × percent are neither stricter. `differing-off` asks that one of SBH, SG, SE and
+-- cams is active in every usable cycle from n up to m; `ended-at-once` and `ended-off`, which imply it, ask it of one cycle.
 use Prim.Native.Nat.{ℕ}
 use mathlib.Core.List.{List}
 use mathlib.Core.Path.{_≡_}

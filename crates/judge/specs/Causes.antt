@@ -17,7 +17,8 @@ use Rattle.selection.specs.Selection.{selectedOf, choiceNext}
 use Rattle.rank.specs.declared.Rank.the-variants as R
 use Rattle.stop.specs.declared.Stop.{Stop}
 use Rattle.comparison.specs.declared.Fault.{Fault}
-use Rattle.comparison.specs.Comparison.{positionDiffers, runOf, inputsDiffer, faultNext, expired}
+use Rattle.comparison.specs.Comparison.{positionDiffers, runOf, inputsDiffer, faultNext}
+use Rattle.active.specs.Active.{faultStops}
 use Rattle.causes.specs.declared.Cause.{Cause}
 use Rattle.causes.specs.Causes.{cause, summaryOf}
 use Rattle.state.specs.declared.State.{State}
@@ -57,10 +58,14 @@ anyDiffers o = o .position || o .inputs || o .datum
 unfoldable pub faultIn : MachineData → State → Given → Fault
 faultIn m s g = faultNext (m .values) (anyDiffers (differencesIn m s g)) (s .kept .fault)
 
+-- whether cause 13 stands: by F and by the effective selection, both as this cycle leaves them
+abbrev pub stopsIn : MachineData → State → Given → Bool
+stopsIn m s g = faultStops (m .values) (choiceIn m s g .effective) (faultIn m s g)
+
 -- step 4, "Causes (2 and 3 by the effective selection)", each with its rank: of the data d, the standing stop, a reading, the choice x, the step, what
--- differs, and whether F's count has run out. 10, 11 and 12 have no rank of their own
+-- differs, and whether F brings STOP B. 10, 11 and 12 have no rank of their own
 abbrev pub table : List ℤ → Stop → Reading → Choice → Step → Differences → Bool → List Cause
-table d stop r x step differs expiry =
+table d stop r x step differs stops =
     -- "2 SBH, distance from reference over datum 2, rank 4"
     cause 2 (standstillLeft d x (r .position)) R.B
     -- "3 SG, |d| × 6000 > limit × percent × T, rank by datum"
@@ -78,14 +83,14 @@ table d stop r x step differs expiry =
     ∷ cause 10 (differs .position) R.None
     ∷ cause 11 (differs .inputs) R.None
     ∷ cause 12 (differs .datum) R.None
-    -- "at 0, with F on, stands cause 13, rank 4, in every case"
-    ∷ cause 13 expiry R.B
+    -- "at 0, with F on, stands cause 13, rank 4", W2: "only in cycles where SBH or SG is effective, or SE or cams are enabled"
+    ∷ cause 13 stops R.B
     ∷ []
 
 -- the table of a usable cycle
 unfoldable pub usableRows : MachineData → State → Given → List Cause
 usableRows m s g =
-    table (m .values) (s .stop) (g .reading) (choiceIn m s g) (stepIn m s g) (differencesIn m s g) (expired (faultIn m s g))
+    table (m .values) (s .stop) (g .reading) (choiceIn m s g) (stepIn m s g) (differencesIn m s g) (stopsIn m s g)
 
 -- "Unusable: cause 1, rank 5"; else the table of step 4
 unfoldable pub rowsOf : MachineData → State → Given → List Cause

@@ -66,9 +66,9 @@ fn rows(
     choice: Choice,
     step: Step,
     differs: Differences,
-    expired: bool,
+    stops: bool,
 ) -> Rows
-    ensures { λ r. ⌜ r ≡ table (now (values .entry)) stop reading choice step differs expired ⌝ }
+    ensures { λ r. ⌜ r ≡ table (now (values .entry)) stop reading choice step differs stops ⌝ }
 {
     let effective = choice.effective;
     [
@@ -129,7 +129,7 @@ fn rows(
         },
         Cause {
             code: 13,
-            stands: expired,
+            stands: stops,
             rank: Rank::B,
         },
     ]
@@ -154,6 +154,7 @@ pub fn judge(values: &Values, count: usize, state: State, given: Given) -> Findi
         datum: report::datum_differs(values, count, state.k, report),
     };
     let after = fault.next(values, differs.any());
+    let bound = choice.effective;
     let rows = rows(
         values,
         stop,
@@ -161,7 +162,7 @@ pub fn judge(values: &Values, count: usize, state: State, given: Given) -> Findi
         choice,
         step,
         differs,
-        after.expired(),
+        active::fault_stops(values, bound, after),
     );
     Findings {
         step,

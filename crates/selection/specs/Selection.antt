@@ -43,6 +43,12 @@ isSbh Nothing = false
 isSbh (Sg n o) = false
 isSbh Sbh = true
 
+-- "SBH or SG effective"
+abbrev pub isEffective : Selection → Bool
+isEffective Nothing = false
+isEffective (Sg n o) = true
+isEffective Sbh = true
+
 -- "When SBH becomes effective and was not so before, its reference is the position, kept while SBH is effective"
 abbrev pub referenceOf : Choice → Selection → ℤ → ℤ
 referenceOf x s position = cond (isSbh s && not (isSbh (x .effective))) position (x .reference)

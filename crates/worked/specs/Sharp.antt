@@ -1,6 +1,6 @@
 -- Runs in which the bounds of demand 3 are reached: what is claimed from a cycle on does not hold in the cycle before. Cycles count from 0.
 use Prim.Native.Nat.{ℕ, _+_}
-use mathlib.Core.Bool.{true}
+use mathlib.Core.Bool.{true, false}
 use mathlib.Core.List.{List, [], _∷_, _++_}
 use mathlib.Core.Path.{_≡_}
 use lib.IntN.{pos}
@@ -10,10 +10,11 @@ use Rattle.machine_data.specs.Data.{numberOf}
 use Rattle.seven.specs.declared.CycleRecord.{CycleRecord}
 use Rattle.records.specs.Records.{reading}
 use Rattle.selection.specs.declared.Selection.{Selection}
-use Rattle.selection.specs.declared.Selection.the-variants.{Nothing, Sbh}
+use Rattle.selection.specs.declared.Selection.the-variants.{Nothing, Sg, Sbh}
 use Rattle.rank.specs.declared.Rank.{Rank}
 use Rattle.rank.specs.declared.Rank.the-variants.{C}
 use Rattle.rank.specs.Rank.{timeOf}
+use Rattle.comparison.specs.declared.Fault.{Fault}
 use Rattle.causes.specs.declared.Cause.{Cause}
 use Rattle.state.specs.declared.Given.{Given}
 use Rattle.channel.specs.declared.Channel.{Channel}
@@ -27,29 +28,41 @@ use Rattle.demand_3.specs.Claims
 use Rattle.demand_3.specs.Claims.{rankInWord, rankInDevice}
 use Rattle.worked.specs.Runs.{is, listOf, alike, positionsApart, cyclesWith}
 
--- T 12, SBH/SG on, standstill tolerance 10, limit of SG1 2000 with STOP C; the delay and all times 2; else the lowest
-unfoldable pub list : MachineData
-list =
+-- T 12, some functions on, standstill tolerance 10, limit of SG1 2000 with STOP C; the delay and all times 2; else the lowest
+abbrev pub listWith : ℕ → MachineData
+listWith functions =
     listOf
-    (is 0 12 ∷ is 1 1 ∷ is 2 10 ∷ is 3 2000 ∷ is 7 3 ∷ is 27 2 ∷ is 29 2 ∷ is 30 2 ∷ is 31 2 ∷ is 32 2 ∷ is 34 2 ∷ [])
+    (is 0 12 ∷ is 1 functions ∷ is 2 10 ∷ is 3 2000 ∷ is 7 3 ∷ is 27 2 ∷ is 29 2 ∷ is 30 2 ∷ is 31 2 ∷ is 32 2 ∷ is 34 2 ∷ [])
+
+-- SBH/SG on
+unfoldable pub list : MachineData
+list = listWith 1
+
+-- n<nx alone
+unfoldable pub nxAlone : MachineData
+nxAlone = listWith 8
 
 -- ---- what the cycles make, and the words that they give beside a channel without a stop
 
-module _ (rs : List CycleRecord) where
+module _ (m : MachineData) (rs : List CycleRecord) where
   abbrev pub cs : ℕ → Given
-  cs = cyclesWith list rs
+  cs = cyclesWith m rs
 
   abbrev pub causeIn : ℕ → ℕ → Cause
-  causeIn n x = Claims.causeIn (λ i. list) (history list cs) cs n x
+  causeIn n x = Claims.causeIn (λ i. m) (history m cs) cs n x
 
   abbrev pub entered : ℕ → Rank
-  entered n = Claims.entered (λ i. list) (history list cs) cs n
+  entered n = Claims.entered (λ i. m) (history m cs) cs n
 
   abbrev pub effective : ℕ → Selection
-  effective n = Claims.effective (λ i. list) (history list cs) cs n
+  effective n = Claims.effective (λ i. m) (history m cs) cs n
+
+  -- F and its count, as cycle n leaves them
+  abbrev pub fault : ℕ → Fault
+  fault n = Claims.stateAfter (λ i. m) (history m cs) cs n .kept .fault
 
   abbrev pub channel : ℕ → ℕ
-  channel n = word list (history list cs n) (cs n)
+  channel n = word m (history m cs n) (cs n)
 
   abbrev pub device : ℕ → ℕ
   device n = deviceOf (channel n) 0
@@ -67,9 +80,16 @@ moving =
 unfoldable pub leaving : List CycleRecord
 leaving = alike (pos 0) 2 ∷ alike (pos 100_000_001) 2 ∷ []
 
--- the position differs from the report in cycle 1
+-- the position differs from the report in cycle 1; SG1 is selected in 0 and 1, and from then on what the input word w selects
+abbrev pub differingThen : ℕ → List CycleRecord
+differingThen w = alike (pos 0) 2 ∷ positionsApart 0 1 2 ∷ replicate 4 (alike (pos 0) w)
+
 unfoldable pub differing : List CycleRecord
-differing = alike (pos 0) 2 ∷ positionsApart 0 1 2 ∷ replicate 4 (alike (pos 0) 2)
+differing = differingThen 2
+
+-- nothing is selected from cycle 2 on, and SG1 again from 6 on
+unfoldable pub idling : List CycleRecord
+idling = differingThen 1 ++ replicate 3 (alike (pos 0) 2)
 
 -- nothing is selected, and from cycle 1 on SBH
 unfoldable pub lowering : List CycleRecord
@@ -81,34 +101,42 @@ recordWords p =
     (0x40000000 + p) ∷ 0x50000002 ∷ 0x60000000 ∷ (0x40000000 + p) ∷ 0x50000002 ∷ 0x60000000 ∷ 0x70000000 ∷ []
 
 abbrev pub beside : Channel
-beside = record { list = list; state = history list (cs moving) 2 }
+beside = record { list = list; state = history list (cs list moving) 2 }
 
 unfoldable pub calls : List Call
-calls = Calls.single (cs moving 0) 0 ∷ Calls.single (cs moving 1) 0 ∷ Calls.logged as-b beside (recordWords 401 ++ recordWords 401) (replicate 6 0) ∷ []
+calls = Calls.single (cs list moving 0) 0 ∷ Calls.single (cs list moving 1) 0 ∷ Calls.logged as-b beside (recordWords 401 ++ recordWords 401) (replicate 6 0) ∷ []
 
 abbrev pub words : ℕ → ℕ → Words
 words channel device = record { channel = channel; device = device }
 
 pub record Sharp : Type 0 where
   -- cause 3 stands in 1 with C's rank: the device rank is no more than that, and 0 in the cycle before
-  pub overstepped-1 : (causeIn moving 1 3 .stands ≡ true) × (causeIn moving 1 3 .rank ≡ C)
-  pub met-in-1 : (rankInDevice (device moving 0) ≡ 0) × (rankInDevice (device moving 1) ≡ 3)
+  pub overstepped-1 : (causeIn list moving 1 3 .stands ≡ true) × (causeIn list moving 1 3 .rank ≡ C)
+  pub met-in-1 : (rankInDevice (device list moving 0) ≡ 0) × (rankInDevice (device list moving 1) ≡ 3)
   -- C, entered in 1 with time 2, is not yet held in 2
-  pub entered-1 : (entered moving 1 ≡ C) × (timeOf (list .values) C ≡ 2)
-  pub held-in-3 : (channel moving 2 ≡ 0x03000081) × (channel moving 3 ≡ 0x0b000081)
+  pub entered-1 : (entered list moving 1 ≡ C) × (timeOf (list .values) C ≡ 2)
+  pub held-in-3 : (channel list moving 2 ≡ 0x03000081) × (channel list moving 3 ≡ 0x0b000081)
   -- the same where 2 and 3 are the cycles of a log
   pub held-in-a-log : Answers (freshChannel list) calls (words 0x00000081 0x1 ∷ words 0x03000081 0x7 ∷ words 0x03000081 0x7 ∷ words 0x0b000081 0x7 ∷ [])
   -- cause 1 stands in 1: the device rank is not yet 5 in 0
-  pub unusable-1 : causeIn leaving 1 1 .stands ≡ true
-  pub off-in-1 : (rankInDevice (device leaving 0) ≡ 0) × (rankInDevice (device leaving 1) ≡ 5)
+  pub unusable-1 : causeIn list leaving 1 1 .stands ≡ true
+  pub off-in-1 : (rankInDevice (device list leaving 0) ≡ 0) × (rankInDevice (device list leaving 1) ≡ 5)
   -- cause 9 stands in 4: the device rank is 4 in 4, and with datum 32 at 2 it is not yet 5 in 5
-  pub moves-4 : (causeIn moving 4 9 .stands ≡ true) × (numberOf (list .values) 32 ≡ 2)
-  pub off-in-6 : (rankInDevice (device moving 4) ≡ 4) × (rankInDevice (device moving 5) ≡ 4) × (rankInDevice (device moving 6) ≡ 5)
+  pub moves-4 : (causeIn list moving 4 9 .stands ≡ true) × (numberOf (list .values) 32 ≡ 2)
+  pub off-in-6 : (rankInDevice (device list moving 4) ≡ 4) × (rankInDevice (device list moving 5) ≡ 4) × (rankInDevice (device list moving 6) ≡ 5)
   -- cycle 7 clears, and the rank falls
-  pub falls-in-7 : (rankInWord (channel moving 6) ≡ 5) × (rankInWord (channel moving 7) ≡ 0)
+  pub falls-in-7 : (rankInWord (channel list moving 6) ≡ 5) × (rankInWord (channel list moving 7) ≡ 0)
   -- cause 10 stands in 1: with data 34 and 32 at 2 the device rank is not yet 5 in 4
-  pub differs-1 : (causeIn differing 1 10 .stands ≡ true) × (numberOf (list .values) 34 ≡ 2)
-  pub off-in-5 : (rankInDevice (device differing 4) ≡ 4) × (rankInDevice (device differing 5) ≡ 5)
+  pub differs-1 : (causeIn list differing 1 10 .stands ≡ true) × (numberOf (list .values) 34 ≡ 2)
+  pub off-in-5 : (rankInDevice (device list differing 4) ≡ 4) × (rankInDevice (device list differing 5) ≡ 5)
+  -- W2: with n<nx alone F stands in 5, its count at 0, and no stop with it
+  pub shown-1 : causeIn nxAlone differing 1 10 .stands ≡ true
+  pub shown-in-5 : (fault nxAlone differing 5 ≡ record { on = true; left = 0 }) × (causeIn nxAlone differing 5 13 .stands ≡ false)
+  pub turning-in-5 : rankInDevice (device nxAlone differing 5) ≡ 0
+  -- W2: active in 1 alone is not enough; selected in 6 again, SG1 becomes effective in 8, and cause 13 stands in that very cycle
+  pub active-1 : (causeIn list idling 1 10 .stands ≡ true) × (effective list idling 1 ≡ Sg 0 0)
+  pub idle-in-7 : (fault list idling 7 ≡ record { on = true; left = 0 }) × (effective list idling 7 ≡ Nothing) × (rankInDevice (device list idling 7) ≡ 0)
+  pub active-in-8 : (effective list idling 8 ≡ Sg 0 0) × (causeIn list idling 8 13 .stands ≡ true) × (rankInDevice (device list idling 8) ≡ 4)
   -- the delay is 2: SBH, selected in 1 and 2, is not yet effective in 2
-  pub selected-1 : (numberOf (list .values) 27 ≡ 2) × (Claims.window (λ i. list) (cs lowering) 3 2 ≡ 3 ∷ 2 ∷ 1 ∷ [])
-  pub bound-in-3 : (effective lowering 2 ≡ Nothing) × (effective lowering 3 ≡ Sbh)
+  pub selected-1 : (numberOf (list .values) 27 ≡ 2) × (Claims.window (λ i. list) (cs list lowering) 3 2 ≡ 3 ∷ 2 ∷ 1 ∷ [])
+  pub bound-in-3 : (effective list lowering 2 ≡ Nothing) × (effective list lowering 3 ≡ Sbh)

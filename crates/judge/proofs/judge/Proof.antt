@@ -35,8 +35,8 @@ any-requires c κs = search needs
 next-requires-2 : tie.Need-next-requires-2
 next-requires-2 c κs = search needs
 
-expired-requires : tie.Need-expired-requires
-expired-requires c κs = search needs
+fault-stops-requires : tie.Need-fault-stops-requires
+fault-stops-requires c κs = search needs
 
 rows-requires : tie.Need-rows-requires
 rows-requires c κs = search needs
@@ -53,7 +53,7 @@ returns c =
     let choice : c .before .before .before .before .before .before .before .before .before .next .result ≡ choiceIn m (a .state) (a .given) = simp (c .before .before .before .before .before .before .before .before .before .next .ensures, c .before .before .before .before .before .before .before .before .before .before .selected .ensures) in
     let differing : c .before .before .before .before .before .before .before .before .run .result ≡ differingIn (a .state) (a .given) = simp (c .before .before .before .before .before .before .before .before .run .ensures) in
     let fault : c .before .before .before .next2 .result ≡ faultIn m (a .state) (a .given) = simp (c .before .before .before .next2 .ensures, c .before .before .before .before .any .ensures, c .before .before .before .before .before .datum-differs .ensures, c .before .before .before .before .before .before .inputs-differ .ensures, c .before .before .before .before .before .before .before .position-differs .ensures, c .before .before .before .before .before .before .before .before .run .ensures) in
-    let rows : c .before .rows .result ≡ usableRows m (a .state) (a .given) = simp (c .before .rows .ensures, c .before .before .expired .ensures, c .before .before .before .next2 .ensures, c .before .before .before .before .any .ensures, c .before .before .before .before .before .datum-differs .ensures, c .before .before .before .before .before .before .inputs-differ .ensures, c .before .before .before .before .before .before .before .position-differs .ensures, c .before .before .before .before .before .before .before .before .run .ensures, c .before .before .before .before .before .before .before .before .before .next .ensures, c .before .before .before .before .before .before .before .before .before .before .selected .ensures, c .before .before .before .before .before .before .before .before .before .before .before .step-of .ensures) in
+    let rows : c .before .rows .result ≡ usableRows m (a .state) (a .given) = simp (c .before .rows .ensures, c .before .before .fault-stops .ensures, c .before .before .before .next2 .ensures, c .before .before .before .before .any .ensures, c .before .before .before .before .before .datum-differs .ensures, c .before .before .before .before .before .before .inputs-differ .ensures, c .before .before .before .before .before .before .before .position-differs .ensures, c .before .before .before .before .before .before .before .before .run .ensures, c .before .before .before .before .before .before .before .before .before .next .ensures, c .before .before .before .before .before .before .before .before .before .before .selected .ensures, c .before .before .before .before .before .before .before .before .before .before .before .step-of .ensures) in
     λ i. record { step = step i; choice = choice i; differing = differing i; fault = fault i; rows = rows i; summary = (c .of .ensures ∙ ap summaryOf rows) i }
 
 pub judge-spec : {M : Type 1} → statement M
@@ -69,7 +69,7 @@ judge-spec =
     datum-differs-requires
     any-requires
     next-requires-2
-    expired-requires
+    fault-stops-requires
     rows-requires
     of-requires
     returns)

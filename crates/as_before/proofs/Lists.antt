@@ -24,8 +24,8 @@ use Rattle.datum.specs.Datum.{ofUnits, ofRead, unitsOf, datumAt, valueAt}
 use Rattle.list.specs.declared.ListRead.{ListRead}
 use Rattle.list.specs.Rules.{isHead}
 use Rattle.list.specs.Reading.{refusedList, onValue, gather, zeros, readList}
-use Rattle.headed_51.specs.Lists.{inRange51, ofUnits51, ofRead51, value51, gather51, read51}
-use Rattle.headed_51.specs.Listing.{Ungeared}
+use Rattle.as_before.specs.Lists.{inRange51, ofUnits51, ofRead51, value51, gather51, read51}
+use Rattle.as_before.specs.Kept.{Ungeared}
 
 -- ---- a datum
 

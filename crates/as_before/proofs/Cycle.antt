@@ -1,0 +1,99 @@
+-- A cycle is alike under two rules that agree in it; and under the rules of now it is the one of the contracts. Assumes nothing.
+use Prim.Native.Nat.{ℕ}
+use mathlib.Core.Path.{_≡_, refl, sym, ap, _∙_}
+use mathlib.Core.Bool.{Bool, true, false, not, cond, _&&_, true≢false}
+use mathlib.Core.List.{List, [], _∷_}
+use Rattle.machine_data.specs.declared.MachineData.{MachineData}
+use Rattle.speed.specs.declared.Step.{Step}
+use Rattle.rank.specs.declared.Rank.the-variants as R
+use Rattle.stop.specs.declared.Stop.the-variants.{Cancelled}
+use Rattle.distance.specs.declared.Previous.the-variants.{Absent}
+use Rattle.comparison.specs.declared.Fault.{Fault}
+use Rattle.comparison.specs.Comparison.{faultNext}
+use Rattle.causes.specs.Causes.{cause, summaryOf, strongestOf, freshOf}
+use Rattle.causes.specs.declared.Cause.{Cause}
+use Rattle.channel_word.specs.Word.{belowNx}
+use Rattle.state.specs.declared.State.{State}
+use Rattle.state.specs.declared.Given.{Given}
+use Rattle.judge.specs.declared.Differences.{Differences}
+use Rattle.judge.specs.declared.Findings.{Findings}
+use Rattle.judge.specs.Causes.{choiceIn, differingIn, differencesIn, anyDiffers, faultIn, table, usableRows, rowsOf}
+use Rattle.advance.specs.After.{usableNext, shownWord}
+use Rattle.channel.specs.Cycle.{strongestIn, clearsIn, next}
+use Rattle.channel.specs.Word.{word}
+use Rattle.as_before.specs.Rules.{Rules, now}
+use Rattle.as_before.specs.Cycle.{stepUnder, differencesUnder, faultUnder, stopsUnder, usableRowsUnder, rowsUnder, findingsUnder, usableNextUnder, nextUnder, wordUnder}
+
+-- ---- the rules of now
+
+module _ (m : MachineData) (s : State) (g : Given) where
+  pub rows-now : rowsOf m s g ≡ rowsUnder now m s g
+  unfolding rowsOf usableRows differencesIn faultIn
+  rows-now = refl
+
+  pub next-now : next m s g ≡ nextUnder now m s g
+  unfolding next clearsIn strongestIn rowsOf usableRows differencesIn faultIn
+  next-now = refl
+
+  pub word-now : word m s g ≡ wordUnder now m s g
+  unfolding word next clearsIn strongestIn rowsOf usableRows differencesIn faultIn
+  word-now = refl
+
+-- ---- rules that agree
+
+-- a test's two ways, the first needed only where it is taken
+ways : {X : Type 0} {x y z w : X} (a b : Bool) → a ≡ b → (a ≡ true → x ≡ y) → z ≡ w → cond a x z ≡ cond b y w
+ways true true e f h = f refl
+ways true false e f h = absurd (true≢false e)
+ways false true e f h = absurd (true≢false (sym e))
+ways false false e f h = h
+
+module _ (p q : Rules) (m : MachineData) (s : State) (g : Given) where
+  -- in a cycle: in what it asks of them, and in cause 13 where the cycle is usable
+  pub record Agree : Type 0 where
+    pub usable : p .usable m (g .reading) ≡ q .usable m (g .reading)
+    pub ratio : p .ratio (m .values) (g .reading .inputs) ≡ q .ratio (m .values) (g .reading .inputs)
+    pub rise : p .rise (m .count) (s .k) ≡ q .rise (m .count) (s .k)
+    pub differs : p .differs m (s .k) (g .report) ≡ q .differs m (s .k) (g .report)
+    pub stops : p .usable m (g .reading) ≡ true → (f : Fault) → p .stops (m .values) (choiceIn m s g .effective) f ≡ q .stops (m .values) (choiceIn m s g .effective) f
+
+  module _ (same : Agree) where
+    step-same : stepUnder p m s g ≡ stepUnder q m s g
+    step-same = λ i. record { moved = stepUnder p m s g .moved; ratio = same .ratio i }
+
+    differences-same : differencesUnder p m s g ≡ differencesUnder q m s g
+    differences-same = λ i. record { position = differencesUnder p m s g .position; inputs = differencesUnder p m s g .inputs; datum = same .differs i }
+
+    fault-same : faultUnder p m s g ≡ faultUnder q m s g
+    fault-same = λ i. faultNext (m .values) (anyDiffers (differences-same i)) (s .kept .fault)
+
+    -- in a usable cycle
+    module _ (u : p .usable m (g .reading) ≡ true) where
+      stops-same : stopsUnder p m s g ≡ stopsUnder q m s g
+      stops-same = same .stops u (faultUnder p m s g) ∙ ap (q .stops (m .values) (choiceIn m s g .effective)) fault-same
+
+      usable-rows-same : usableRowsUnder p m s g ≡ usableRowsUnder q m s g
+      usable-rows-same = λ i. table (m .values) (s .stop) (g .reading) (choiceIn m s g) (step-same i) (differences-same i) (stops-same i)
+
+      findings-same : findingsUnder p m s g ≡ findingsUnder q m s g
+      findings-same = λ i. record { step = step-same i; choice = choiceIn m s g; differing = differingIn s g; fault = fault-same i; rows = usable-rows-same i; summary = summaryOf (usable-rows-same i) }
+
+    -- the causes
+    pub rows-same : rowsUnder p m s g ≡ rowsUnder q m s g
+    rows-same = ways (p .usable m (g .reading)) (q .usable m (g .reading)) (same .usable) usable-rows-same refl
+
+    usable-next-same : p .usable m (g .reading) ≡ true → usableNextUnder p m s g ≡ usableNextUnder q m s g
+    usable-next-same u =
+        λ i.
+        let n = usableNext m s g (findings-same u i) (g .acknowledged && not (freshOf (rows-same i))) (strongestOf (rows-same i)) in
+        record { k = same .rise i; kept = n .kept; stop = n .stop; previous = n .previous }
+
+    -- the state after it
+    pub next-same : nextUnder p m s g ≡ nextUnder q m s g
+    next-same =
+        ways (p .usable m (g .reading)) (q .usable m (g .reading)) (same .usable) usable-next-same
+        (λ i. record { k = same .rise i; kept = s .kept; stop = Cancelled; previous = Absent })
+
+    -- its word
+    pub word-same : wordUnder p m s g ≡ wordUnder q m s g
+    word-same = λ i. shownWord (m .values) (next-same i) (same .usable i && belowNx (m .values) (step-same i))

@@ -1,0 +1,5 @@
+pub mod Lists
+pub mod Cycle
+pub mod Runs
+pub mod Headed51
+pub mod Active

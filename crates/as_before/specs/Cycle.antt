@@ -1,0 +1,80 @@
+-- A cycle under any rules. What no request moved is taken as it is now: the choice, the run of cause 11, the table, and what a usable cycle leaves.
+use Prim.Native.Nat.{ℕ}
+use mathlib.Core.Bool.{Bool, true, not, cond, _&&_}
+use mathlib.Core.List.{List, [], _∷_}
+use Rattle.machine_data.specs.declared.MachineData.{MachineData}
+use Rattle.distance.specs.declared.Previous.the-variants.{Absent}
+use Rattle.distance.specs.Step.{movedFrom}
+use Rattle.speed.specs.declared.Step.{Step}
+use Rattle.rank.specs.declared.Rank.the-variants as R
+use Rattle.stop.specs.declared.Stop.the-variants.{Cancelled}
+use Rattle.comparison.specs.declared.Fault.{Fault}
+use Rattle.comparison.specs.Comparison.{positionDiffers, inputsDiffer, faultNext}
+use Rattle.causes.specs.declared.Cause.{Cause}
+use Rattle.causes.specs.Causes.{cause, summaryOf, strongestOf, freshOf}
+use Rattle.channel_word.specs.Word.{belowNx}
+use Rattle.state.specs.declared.State.{State}
+use Rattle.state.specs.declared.Given.{Given}
+use Rattle.judge.specs.declared.Differences.{Differences}
+use Rattle.judge.specs.declared.Findings.{Findings}
+use Rattle.judge.specs.Causes.{choiceIn, differingIn, anyDiffers, table}
+use Rattle.advance.specs.After.{usableNext, shownWord}
+use Rattle.as_before.specs.Rules.{Rules}
+
+module _ (rules : Rules) (m : MachineData) (s : State) (g : Given) where
+  -- step 2
+  abbrev pub stepUnder : Step
+  stepUnder = record { moved = movedFrom (s .previous) (g .reading .position); ratio = rules .ratio (m .values) (g .reading .inputs) }
+
+  -- causes 10, 11 and 12, and F
+  abbrev pub differencesUnder : Differences
+  differencesUnder =
+      record {
+        position = positionDiffers (m .values) (g .reading) (g .report);
+        inputs = inputsDiffer (m .values) (differingIn s g);
+        datum = rules .differs m (s .k) (g .report);
+      }
+
+  abbrev pub faultUnder : Fault
+  faultUnder = faultNext (m .values) (anyDiffers differencesUnder) (s .kept .fault)
+
+  -- cause 13
+  abbrev pub stopsUnder : Bool
+  stopsUnder = rules .stops (m .values) (choiceIn m s g .effective) faultUnder
+
+  abbrev pub usableRowsUnder : List Cause
+  usableRowsUnder = table (m .values) (s .stop) (g .reading) (choiceIn m s g) stepUnder differencesUnder stopsUnder
+
+  -- "Unusable: cause 1, rank 5"; else the table of step 4
+  abbrev pub rowsUnder : List Cause
+  rowsUnder = cond (rules .usable m (g .reading)) usableRowsUnder (cause 1 true R.A ∷ [])
+
+  abbrev pub findingsUnder : Findings
+  findingsUnder =
+      record {
+        step = stepUnder;
+        choice = choiceIn m s g;
+        differing = differingIn s g;
+        fault = faultUnder;
+        rows = usableRowsUnder;
+        summary = summaryOf usableRowsUnder;
+      }
+
+  -- "A cycle clears if it is acknowledged and has no fresh cause"
+  abbrev pub clearsUnder : Bool
+  clearsUnder = g .acknowledged && not (freshOf rowsUnder)
+
+  -- what a usable cycle leaves, with k by the rules
+  abbrev pub usableNextUnder : State
+  usableNextUnder =
+      let u = usableNext m s g findingsUnder clearsUnder (strongestOf rowsUnder) in
+      record { k = rules .rise (m .count) (s .k); kept = u .kept; stop = u .stop; previous = u .previous }
+
+  -- the state after a cycle
+  abbrev pub nextUnder : State
+  nextUnder =
+      cond (rules .usable m (g .reading)) usableNextUnder
+      (record { k = rules .rise (m .count) (s .k); kept = s .kept; stop = Cancelled; previous = Absent })
+
+  abbrev pub wordUnder : ℕ
+  wordUnder = shownWord (m .values) nextUnder (rules .usable m (g .reading) && belowNx (m .values) stepUnder)

@@ -1,0 +1,75 @@
+-- What the theorems ask: the lists, cycles, runs and kits that a request leaves as they were.
+use Prim.Native.Nat.{ℕ, _+_, _≤_}
+use mathlib.Core.Path.{_≡_}
+use mathlib.Core.Bool.{true, _||_}
+use mathlib.Core.List.{List, [], _∷_}
+use lib.ListN.{getD, drop}
+use lib.IntN.{pos}
+use lib.Dec.{T}
+use Rattle.words.specs.declared.Word.the-variants.{Head}
+use Rattle.words.specs.Words.{wordAt}
+use Rattle.machine_data.specs.declared.MachineData.{MachineData}
+use Rattle.machine_data.specs.Data.{functionOf}
+use Rattle.inputs.specs.declared.Reading.{Reading}
+use Rattle.inputs.specs.Usable.{usableOf}
+use Rattle.selection.specs.Selection.{selectedOf, isEffective}
+use Rattle.active.specs.Active.{active}
+use Rattle.seven.specs.declared.CycleRecord.{CycleRecord}
+use Rattle.records.specs.Records.{records, logOf}
+use Rattle.state.specs.declared.State.{State}
+use Rattle.state.specs.declared.Given.{Given}
+use Rattle.state.specs.State.{freshState}
+use Rattle.judge.specs.Causes.{choiceIn}
+use Rattle.list.specs.declared.ListAnswer.the-variants.{Accepted}
+use Rattle.list.specs.Reading.{readList}
+use Rattle.log.specs.Run.{Both, givenA, givenB, deviceCycle}
+
+-- ---- W1
+
+-- what a list headed 51 leaves in a channel: its data, and 0 behind them
+pub record Headed51 (m : MachineData) : Type 0 where
+  pub count : m .count ≡ 51
+  pub lacks : (k : ℕ) → 51 ≤ k → getD (m .values) k (pos 0) ≡ pos 0
+
+-- a list that is not headed 67
+abbrev pub Ungeared : List ℕ → Type 0
+Ungeared s = wordAt s 0 ≡ Head 67 → ⊥
+
+-- nor is the one behind it
+pub record UngearedKit (words : List ℕ) : Type 0 where
+  pub list-a : Ungeared words
+  pub list-b : (n : ℕ) → readList words .answer ≡ Accepted n → Ungeared (drop n words)
+
+-- ---- W2
+
+-- "SE or cams are enabled"
+abbrev pub Enabled : MachineData → Type 0
+Enabled m = T (functionOf (m .values) 1 || functionOf (m .values) 2)
+
+-- one of SBH, SG, SE and cams is active in a cycle, or it is unusable
+abbrev pub ActiveAt : MachineData → State → Given → Type 0
+ActiveAt m s g = T (usableOf m (g .reading)) → T (active (m .values) (choiceIn m s g .effective))
+
+-- in every cycle of a log's run, and in both channels
+abbrev pub ActiveAlong : MachineData → MachineData → Both → List CycleRecord → Type 0
+ActiveAlong da db x [] = Unit {0}
+ActiveAlong da db x (r ∷ rs) =
+    ActiveAt da (x .a) (givenA da db x r) × ActiveAt db (x .b) (givenB da db x r) × ActiveAlong da db (deviceCycle da db x r .both) rs
+
+-- so where each usable input word of a log selects SBH or SG, in both channels, on channels that have it so already or are fresh
+abbrev pub Selects : MachineData → Reading → Type 0
+Selects m r = T (usableOf m r) → T (isEffective (selectedOf (m .values) (r .inputs)))
+
+abbrev pub SelectsAlong : MachineData → MachineData → List CycleRecord → Type 0
+SelectsAlong da db [] = Unit {0}
+SelectsAlong da db (r ∷ rs) = Selects da (r .a) × Selects db (r .b) × SelectsAlong da db rs
+
+abbrev pub Chosen : State → Type 0
+Chosen s = s .kept .choice .chosen ≡ true → T (isEffective (s .kept .choice .effective))
+
+-- and in the run of a kit, if it has one
+abbrev pub ActiveKit : List ℕ → Type 0
+ActiveKit words =
+    (n m : ℕ) → readList words .answer ≡ Accepted n → readList (drop n words) .answer ≡ Accepted m →
+    (rs : List CycleRecord) → logOf (drop (n + m) words) ≡ records rs →
+    ActiveAlong (readList words .list) (readList (drop n words) .list) (record { a = freshState; b = freshState }) rs

@@ -1,0 +1,5 @@
+pub mod Lists
+pub mod Rules
+pub mod Cycle
+pub mod Runs
+pub mod Kept

@@ -1,0 +1,101 @@
+-- What the requests have moved in how a list is read and a cycle goes, as one record: the rules of now, those before W2 and those of document 01. What no
+-- request moved is not kept twice: a cycle under any rules is Cycle.antt, a run Runs.antt.
+use Prim.Native.Nat.{ℕ, suc, _+_, _/_, _%_, _^_}
+use mathlib.Core.Bool.{Bool, cond, _&&_}
+use mathlib.Core.List.{List}
+use lib.ListN.{getD}
+use lib.IntN.{ℤ, pos, natAbs, _-ℤ_}
+use lib.Dec.{leb, ltb, eqb}
+use Rattle.machine_data.specs.declared.MachineData.{MachineData}
+use Rattle.machine_data.specs.declared.Ratio.{Ratio}
+use Rattle.inputs.specs.declared.Reading.{Reading}
+use Rattle.inputs.specs.Usable.{usableOf, ratioIn}
+use Rattle.selection.specs.declared.Selection.{Selection}
+use Rattle.report.specs.declared.Report.{Report}
+use Rattle.report.specs.Report.{nextK, reportOf, datumDiffers}
+use Rattle.comparison.specs.declared.Fault.{Fault}
+use Rattle.comparison.specs.Comparison.{expired}
+use Rattle.active.specs.Active.{faultStops}
+use Rattle.list.specs.declared.ListRead.{ListRead}
+use Rattle.list.specs.Reading.{readList}
+use Rattle.as_before.specs.Lists.{read51}
+
+-- whether cause 13 stands, by the data, the effective selection and F
+abbrev pub Stops : Type 0
+Stops = List ℤ → Selection → Fault → Bool
+
+pub record Rules : Type 0 where
+  -- how a list is read, which inputs are usable, the ratio of a step, what follows k, a report, and cause 12
+  pub read : List ℕ → ListRead
+  pub usable : MachineData → Reading → Bool
+  pub ratio : List ℤ → ℕ → Ratio
+  pub rise : ℕ → ℕ → ℕ
+  pub report : MachineData → ℕ → Reading → Report
+  pub differs : MachineData → ℕ → Report → Bool
+  -- cause 13
+  pub stops : Stops
+
+-- ---- since W1
+
+abbrev pub geared : Stops → Rules
+geared stops =
+    record { read = readList; usable = usableOf; ratio = ratioIn; rise = nextK; report = reportOf; differs = datumDiffers; stops = stops }
+
+-- ---- before W1: document 01, "Safe inputs and reports" and "One cycle of a channel". Nothing here looks at a gear's bits, a ratio or a report's head
+
+-- "Every other bit": 2, 5 to 11, 13 to 17 and 22 to 27
+abbrev pub spare51 : ℕ → ℕ
+spare51 w = w / 2 ^ 2 % 2 ^ 1 + w / 2 ^ 5 % 2 ^ 7 + w / 2 ^ 13 % 2 ^ 5 + w / 2 ^ 22 % 2 ^ 6
+
+-- "Every other bit must be 0. Inputs are unusable if one is not, or if the position lies outside ±100,000,000"
+abbrev pub usable51 : Reading → Bool
+usable51 r = leb (natAbs (r .position)) 100_000_000 && eqb (spare51 (r .inputs)) 0
+
+-- a step is |d|: that the comparisons of one with the ratio 1 to 1 are document 01's is `too-fast-51` and `slower-51` in proofs/Headed51.antt
+abbrev pub plain : Ratio
+plain = record { numerator = 1; denominator = 1 }
+
+-- "k starts at 0, rises by one each cycle, and follows 50 by 0"
+abbrev pub nextK51 : ℕ → ℕ
+nextK51 k = cond (ltb (suc k) 51) (suc k) 0
+
+-- "its datum k"
+abbrev pub entry51 : List ℤ → ℕ → ℤ
+entry51 d k = cond (ltb k 51) (getD d k (pos 0)) (pos 0)
+
+-- "that cycle's position and whole input word and its datum k"; nothing looks at the head
+abbrev pub report51 : MachineData → ℕ → Reading → Report
+report51 m k r = record { position = r .position; inputs = r .inputs; datum = entry51 (m .values) k; head = 51 }
+
+-- "12 datum k differs"
+abbrev pub differs51 : MachineData → ℕ → Report → Bool
+differs51 m k o = ltb 0 (natAbs (entry51 (m .values) k -ℤ o .datum))
+
+abbrev pub ungeared : Stops → Rules
+ungeared stops =
+    record {
+      read = read51;
+      usable = λ m r. usable51 r;
+      ratio = λ d w. plain;
+      rise = λ count k. nextK51 k;
+      report = report51;
+      differs = differs51;
+      stops = stops;
+    }
+
+-- ---- before W2
+
+-- "at 0, with F on, stands cause 13, rank 4, in every case"
+abbrev pub inEveryCase : Stops
+inEveryCase d effective f = expired f
+
+-- ---- the rules that have been
+
+abbrev pub now : Rules
+now = geared faultStops
+
+abbrev pub beforeW2 : Rules
+beforeW2 = geared inEveryCase
+
+abbrev pub document01 : Rules
+document01 = ungeared inEveryCase

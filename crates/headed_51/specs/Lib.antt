@@ -1,3 +1,0 @@
-pub mod Lists
-pub mod Cycle
-pub mod Listing

@@ -231,8 +231,16 @@ impl Channel {
         paper!(r, (),
             OrderScaled => self.selections.ratio = ratio,
             RatioWaits => self.selections.ratio = ratio);
+        // Of deviations only.
+        let was_active = paper!(r, true, FCountAnewActive => self.active(r));
         self.selections
             .advance(r, &self.data, moment.selected, reference);
+        paper!(r, (), FCountAnewActive => {
+            if self.f.on && !was_active && self.active(r) {
+                // It falls by one yet in this cycle.
+                self.f.count = i64::from(self.data.get(number::TIME_F)) + 1;
+            }
+        });
         let causes = causes::of_cycle(
             r,
             &self.data,
@@ -243,6 +251,9 @@ impl Channel {
             &mut self.f,
         );
         self.advance_stop(r, &causes, acknowledged, &moment);
+        paper!(r, (), RankFallsInactive => {
+            if self.f.time_is_over() && !self.active(r) { self.stop.clear(r) }
+        });
         paper!(r, self.move_cams(r, position),
             CamsScaled => self.move_cams(r, ratio.of_number(position.into()) as i32));
         let word = self.word(r, moment.selected, inputs, Some(&moment));
@@ -293,13 +304,18 @@ impl Channel {
     ) {
         if self.clears(r, acknowledged, causes) {
             self.stop.clear(r);
-            self.f = paper!(r, F::OFF, ClearKeepsF => self.f);
+            self.f = paper!(r, F::OFF,
+                ClearKeepsF => self.f,
+                ClearKeepsFInactive => if self.active(r) { F::OFF } else { self.f });
             self.selections.cleared(r, moment.position);
             paper!(r, (),
                 ClearEndsRun => self.run = Run(0),
                 ClearSetsK => self.k = COUNT);
         } else {
             let strongest = causes.strongest();
+            paper!(r, (), BWaitsInactive => {
+                if self.stop.rank == Rank::B && !self.active(r) { self.stop.count += 1 }
+            });
             let d = paper!(r, moment.d,
                 ShutdownNeedsPrevious => self.previous.map_or(i32::MAX.into(), |_| moment.d));
             self.stop
@@ -451,7 +467,9 @@ impl Channel {
         let held = paper!(r, self.stop.held.is_some(),
             HeldBitAtRest => self.stop.held.is_some() && moment.is_some_and(|moment| moment.d == 0));
         let f = paper!(r, self.f.on,
-            FBitUntil13 => self.f.on && self.f.count > 0);
+            FBitUntilOver => self.f.on && !self.f.time_is_over(),
+            FBitOnlyActive => self.f.on && self.active(r),
+            FBitOverOnlyActive => self.f.on && (!self.f.time_is_over() || self.active(r)));
         let (held_bit, f_bit) = paper!(r, (27, 28),
             HeldBitMoved => (29, 28),
             HeldAndFSwapped => (28, 27));
@@ -459,6 +477,16 @@ impl Channel {
             | rank.number() << paper!(r, 24, RankBitsMoved => 25)
             | u32::from(held) << held_bit
             | u32::from(f) << f_bit
+    }
+
+    /// Of deviations only: looks at what is active in the other channel.
+    pub(crate) fn look_at(&mut self, other: &Channel) {
+        self.selections.other_active = other.active(Paper);
+    }
+
+    /// Of deviations only: [`causes::active`] in this channel.
+    fn active<R: Reading>(&self, r: R) -> bool {
+        causes::active(r, &self.data, &self.selections)
     }
 
     /// Of deviations only: the wrong programs that look at no rule.

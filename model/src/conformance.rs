@@ -2,7 +2,8 @@
 //!
 //! Each kit is a file `NAME.txt`. A line `# 01 (SUPPLIER 7.2): "..."` quotes the sentence of
 //! document 01 that it tries, beside the section of `docs/SUPPLIER.md` in which its rule stands;
-//! `# 02 W1 (SUPPLIER 7.2): "..."` one of request W1 of document 02. A comment
+//! `# 02 W1 (SUPPLIER 7.2): "..."` one of request W1 of document 02, and so on for each request that
+//! has landed ([`LANDED`]). A comment
 //! `#> 2 03000081 03000081 7` says a line of its listing, worked out by hand from these papers; a
 //! kit that lists otherwise is refused here, so that it cannot go unnoticed.
 
@@ -11,6 +12,9 @@ use crate::{listing, Deviation};
 use std::fs;
 use std::io;
 use std::path::Path;
+
+/// The requests of document 02 that have landed: those that a kit may quote.
+pub const LANDED: &[&str] = &["W1", "W2"];
 
 /// What may stand in the folder beside the kits.
 pub(crate) const PAGE: &str = "README.md";
@@ -54,7 +58,7 @@ impl Kit {
 /// rule stands.
 #[derive(Clone, Debug, PartialEq, Eq)]
 pub struct Quote {
-    /// `01`, or `02 W1` for request W1 of document 02.
+    /// `01`, or `02 W1` for request W1 of document 02, and so on.
     pub paper: String,
     pub section: String,
     pub sentence: String,
@@ -93,8 +97,8 @@ fn quote(line: &str) -> Option<Quote> {
     let (section, sentence) = rest.split_once("): \"")?;
     let sentence = sentence.strip_suffix('"')?;
     let number = |part: &str| !part.is_empty() && part.bytes().all(|b| b.is_ascii_digit());
-    let request = paper.strip_prefix("02 W").is_some_and(number);
-    let known = paper == "01" || request;
+    let request = paper.strip_prefix("02 ");
+    let known = paper == "01" || request.is_some_and(|request| LANDED.contains(&request));
     (known && section.split('.').all(number) && !sentence.is_empty()).then(|| Quote {
         paper: paper.into(),
         section: section.into(),

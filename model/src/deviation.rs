@@ -1,4 +1,4 @@
-//! Readings of document 01 and request W1: the papers themselves, and single deviations from them.
+//! Readings of document 01 and of requests W1 and W2: the papers themselves, and single deviations from them.
 //!
 //! A function of the model takes a reading. [`Paper`] never deviates and costs nothing;
 //! [`Deviant`] is wrong in one place, so that kits can be tried for whether they notice.
@@ -7,8 +7,8 @@
 //! wrong boards in `tests/scripts.rs`):
 //! - F's count, the stop's count or the hold's reference changed in an unusable cycle: the rank
 //!   is 5 from there until a cycle clears, and that puts all of them off;
-//! - cause 13 standing only in the first cycle where the count is 0: the rank is 4 or 5 until
-//!   a cycle clears, and that puts F off;
+//! - whether cause 13 stands in a cycle after one in which it stood: the rank is 4 or 5 until a
+//!   cycle clears, and that puts F off;
 //! - cam signals left as they are while their function is off: a list never changes;
 //! - |d| × 60 divided by T before it is compared with nx or the shutdown speed: for whole n,
 //!   a quotient rounded down is below n just where the quotient is;
@@ -445,6 +445,28 @@ deviations! {
     FTimeOneLess: "the time from F to B is one cycle shorter", "its count to datum 34; the count falls in later usable cycles";
     FTimeZeroNextCycle: "with datum 34 at 0 cause 13 stands in the next cycle", "at 0, with F on, stands cause 13 (datum 34 at 0: in the same cycle)";
     FWithoutB: "F never leads to STOP B", "at 0, with F on, stands cause 13, rank 4, in every case";
+    FNotSetInactive: "F is not set while nothing is active", "W2: F is shown, and STOP B follows only if SBH, SG, SE or cams are active.";
+    FOffWhenOver: "F goes off where its count is 0 and nothing is active", "W2: F is shown, and STOP B follows only if SBH, SG, SE or cams are active.";
+    FCountWaitsInactive: "F's count does not fall while nothing is active", "W2: F's count runs on meanwhile.";
+    FCountAnewActive: "F's count is set anew where something becomes active", "W2: F's count runs on meanwhile.";
+    ActiveNotAsked: "cause 13 stands whether something is active or not", "W2: From now on cause 13 stands only in cycles where SBH or SG is effective, or SE or cams are enabled.";
+    ActiveByCycleBefore: "cause 13 goes by the effective selection of the cycle before", "W2: in cycles where SBH or SG is effective";
+    ActiveBySelected: "a selection counts as active while it waits in its delay", "W2: in cycles where SBH or SG is effective";
+    ActiveByFunction0: "function SBH/SG counts as active with nothing effective too", "W2: in cycles where SBH or SG is effective";
+    ActiveWithoutSbh: "SBH does not count as active", "W2: in cycles where SBH or SG is effective";
+    ActiveWithoutSg: "an SG does not count as active", "W2: in cycles where SBH or SG is effective";
+    ActiveWithoutSg1: "SG1, whose number less one is 0, does not count as active", "W2: in cycles where SBH or SG is effective";
+    ActiveWithoutSe: "SE does not count as active", "W2: or SE or cams are enabled";
+    ActiveSe2Only: "SE counts as active only while SE2 is chosen", "W2: or SE or cams are enabled";
+    ActiveSeOutside: "SE counts as active only where the position is outside", "W2: or SE or cams are enabled";
+    ActiveWithoutCams: "the cams do not count as active", "W2: or SE or cams are enabled";
+    ActiveCamsAbove: "the cams count as active only above one of them", "W2: or SE or cams are enabled";
+    ActiveByNx: "n<nx counts as active", "W2: A grinding shop enables n<nx alone";
+    ActiveByExternalStops: "the external stops count as active", "W2: From now on cause 13 stands only in cycles where SBH or SG is effective, or SE or cams are enabled.";
+    ActiveByStop: "a standing stop counts as active", "W2: From now on cause 13 stands only in cycles where SBH or SG is effective, or SE or cams are enabled.";
+    ActiveInEither: "what is active in the other channel counts too", "W2: From now on cause 13 stands only in cycles where SBH or SG is effective, or SE or cams are enabled. (in this channel)";
+    ActiveByReport: "cause 13 goes by what the report's input word selects", "W2: in cycles where SBH or SG is effective";
+    Cause13Once: "cause 13 stands only in the first cycle where F's count is 0", "W2: From now on cause 13 stands only in cycles where SBH or SG is effective, or SE or cams are enabled. (in each of them)";
     Cause13OnlyAlone: "cause 13 stands only where no other cause does", "at 0, with F on, stands cause 13, rank 4, in every case";
     Cause13OnlyWithoutF: "cause 13 stands only where none of 10, 11, 12 does", "at 0, with F on, stands cause 13, rank 4, in every case";
     Cause13RankA: "cause 13 has rank 5", "stands cause 13, rank 4";
@@ -465,6 +487,7 @@ deviations! {
     ClearNeedsNoAcknowledgement: "a cycle without a fresh cause clears", "5. Acknowledged and no fresh cause: rank 0, not held, F off.";
     ClearKeepsHold: "clearing leaves a held stop", "5. Acknowledged and no fresh cause: rank 0, not held, F off.";
     ClearKeepsF: "clearing leaves F on", "5. Acknowledged and no fresh cause: rank 0, not held, F off.";
+    ClearKeepsFInactive: "clearing leaves F on while nothing is active", "5. Acknowledged and no fresh cause: rank 0, not held, F off.";
     ClearNotA: "STOP A is never cleared", "5. Acknowledged and no fresh cause: rank 0, not held, F off.";
     ClearEndsRun: "clearing ends the run of differing inputs", "5. Acknowledged and no fresh cause: rank 0, not held, F off. (nothing else)";
     ClearEndsDelay: "clearing ends the delay's count", "5. Acknowledged and no fresh cause: rank 0, not held, F off. (nothing else)";
@@ -489,6 +512,8 @@ deviations! {
     DNotHeld: "STOP D is never held", "C, D and E are held with the position as reference";
     ENotHeld: "STOP E is never held", "C, D and E are held with the position as reference";
     BNotToA: "STOP B never becomes A by its time", "and B becomes A";
+    BWaitsInactive: "STOP B's count does not fall while nothing is active", "else the count falls by one";
+    RankFallsInactive: "a stop falls where F's count is 0 and nothing is active", "5. Acknowledged and no fresh cause: rank 0, not held, F off. (a stop falls in no other cycle)";
     BAtOnceA: "STOP B becomes A on entry", "and B becomes A";
     HoldReferenceMoves: "the hold's reference follows the position", "The reference then stays while the hold lasts.";
     HoldReferenceFromEntry: "the hold's reference is the position of the stop's entry", "C, D and E are held with the position as reference";
@@ -544,7 +569,9 @@ deviations! {
     RankBitsMoved: "the rank stands in bits 25-27", "24-26 rank";
     HeldBitMoved: "held stands in bit 29", "27 held";
     HeldAndFSwapped: "held stands in bit 28 and F in bit 27", "27 held, 28 F";
-    FBitUntil13: "the F bit is 0 once cause 13 stands", "28 F";
+    FBitUntilOver: "the F bit is 0 once F's count is 0", "28 F";
+    FBitOnlyActive: "the F bit is 0 while nothing is active", "W2: F is shown, and STOP B follows only if SBH, SG, SE or cams are active.";
+    FBitOverOnlyActive: "the F bit is 0 where F's count is 0 and nothing is active", "W2: F is shown, and STOP B follows only if SBH, SG, SE or cams are active.";
     HeldBitAtRest: "the held bit is set only where the axis stands still", "27 held";
 
     // The device.

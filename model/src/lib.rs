@@ -1,8 +1,8 @@
-//! A reference bench model of the two-channel axis monitor of document 01, with request W1 of
-//! document 02, "Spindles with gear stages".
+//! A reference bench model of the two-channel axis monitor of document 01, with requests W1,
+//! "Spindles with gear stages", and W2, "A spindle that only shows n<nx", of document 02.
 //!
 //! The modules stand in document 01's order and use its words. Each function quotes the
-//! sentence that it stands for; behind `W1:` stands one of the request.
+//! sentence that it stands for; behind `W1:` and `W2:` stands one of the request.
 //!
 //! In an expression `paper!(r, right, Deviation => wrong, ..)` the first part is the papers'.
 //! The lines behind it are wrong programs that a good kit notices; a reader of the monitor

@@ -156,6 +156,10 @@ pub fn both<R: Reading>(r: R, a: &mut Channel, b: &mut Channel, record: Record) 
         (from_a.position, from_b.position) = (from_b.position, from_a.position);
         (from_a.inputs, from_b.inputs) = (from_b.inputs, from_a.inputs);
     });
+    paper!(r, (), ActiveInEither => {
+        a.look_at(b);
+        b.look_at(a);
+    });
     let (to_a, to_b) = paper!(r, (acknowledged, acknowledged),
         AcknowledgesOnlyA => (acknowledged, false),
         AcknowledgesOnlyB => (false, acknowledged));

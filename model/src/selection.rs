@@ -116,12 +116,15 @@ pub struct Selections {
     /// "its reference is the position, kept while SBH is effective"
     pub reference: i32,
     /// Of deviations only: the selection that waits, and the position of its choice; the present
-    /// ratio, and that of the effective selection.
+    /// ratio, and that of the effective selection; what was effective in the cycle before, and
+    /// whether something is active in the other channel.
     waiting: Selection,
     chosen_at: i32,
     referenced: bool,
     pub ratio: Ratio,
     pub bound_by: Ratio,
+    pub before: Selection,
+    pub other_active: bool,
 }
 
 impl Selections {
@@ -136,6 +139,8 @@ impl Selections {
         referenced: false,
         ratio: Ratio::ONE,
         bound_by: Ratio::ONE,
+        before: Selection::Nothing,
+        other_active: false,
     };
 
     /// "counts, runs, F, selections, references and cams stay"
@@ -167,6 +172,7 @@ impl Selections {
         position: i32,
     ) {
         let was_sbh = self.effective == Selection::Sbh;
+        paper!(r, (), ActiveByCycleBefore => self.before = self.effective);
         if self.at_once(r, data, selected) {
             self.bind(r, selected);
         } else {

@@ -93,13 +93,18 @@ fn a_kit_must_quote_and_list_as_it_says() {
 #[test]
 fn a_quote_has_its_section() {
     let text =
-        "# 01 (SUPPLIER 7.2): \"A \"b\".\"\n# 01.\n# 010\nlist A\n# 02 W1 (SUPPLIER 11): \"c\"";
+        "# 01 (SUPPLIER 7.2): \"A \"b\".\"\n# 01.\n# 010\nlist A\n# 02 W1 (SUPPLIER 11): \"c\"\n# 02 W2 (SUPPLIER 8): \"d\"";
     let quotes = conformance::quotes(text).expect(text);
     let told: Vec<[&str; 3]> = quotes
         .iter()
         .map(|quote| [&*quote.paper, &*quote.section, &*quote.sentence])
         .collect();
-    assert_eq!(told, [["01", "7.2", "A \"b\"."], ["02 W1", "11", "c"]]);
+    let expected = [
+        ["01", "7.2", "A \"b\"."],
+        ["02 W1", "11", "c"],
+        ["02 W2", "8", "d"],
+    ];
+    assert_eq!(told, expected);
     for wrong in [
         "# 01: \"T\"",
         "# 01, 3: \"T\"",
@@ -112,6 +117,8 @@ fn a_quote_has_its_section() {
         "# 01 W1 (SUPPLIER 3): \"T\"",
         "# 02 (SUPPLIER 3): \"T\"",
         "# 02 W (SUPPLIER 3): \"T\"",
+        "# 02 W0 (SUPPLIER 3): \"T\"",
+        "# 02 W14 (SUPPLIER 3): \"T\"",
         "# 02 W1: \"T\"",
         "# 02 W1 (SUPPLIER): \"T\"",
     ] {

@@ -4,7 +4,7 @@ mod common;
 use common::Xorshift;
 use model::channel::{usable, Report};
 use model::selection::Selection;
-use model::{device, list, log, random, Channel, Paper};
+use model::{causes, device, list, log, random, Channel, Paper};
 
 /// One cycle of the working channel.
 struct Seen {
@@ -14,6 +14,7 @@ struct Seen {
     entered: Option<u32>,
     selected: Selection,
     effective: Selection,
+    active: bool,
     word: u32,
     device: u32,
 }
@@ -52,6 +53,7 @@ fn cycle(
         entered: (usable && strongest > before.stop().rank).then(|| strongest.number()),
         selected: Selection::of(Paper, channel.data(), inputs),
         effective: channel.selections().effective,
+        active: causes::active(Paper, channel.data(), channel.selections()),
         word: cycle.word,
         device: device::word(cycle.word, other),
     }
@@ -161,7 +163,7 @@ fn until_cleared(seen: &[Seen], n: usize, from: usize, claim: impl Fn(&Seen) -> 
 
 #[test]
 fn the_bounds_hold_over_random_calls() {
-    let mut looked_at = [0_u64; 6];
+    let (mut looked_at, mut without) = ([0_u64; 7], 0_u64);
     for seed in 0..3_000 {
         let Some((channel, seen)) = calls(seed) else {
             continue;
@@ -204,9 +206,22 @@ fn the_bounds_hold_over_random_calls() {
                     == 5));
             }
             if cycle.stands(10) {
-                looked_at[4] += 1;
-                let from = n + datum(34) + datum(32);
-                assert!(until_cleared(&seen, n, from, |later| later.device_rank() == 5));
+                let (b, a) = (n + datum(34), n + datum(34) + datum(32));
+                let off = |later: &Seen| later.device_rank() == 5;
+                // W2: "for axes on which one of these is active throughout"
+                let idle = (n..seen.len()).find(|&m| seen[m].usable && !seen[m].active);
+                let throughout = &seen[..idle.unwrap_or(seen.len())];
+                if n < throughout.len() {
+                    looked_at[4] += u64::from(a < throughout.len());
+                    assert!(until_cleared(throughout, n, a, off));
+                }
+                // The one cycle in which F's count is 0 at the latest is enough.
+                if seen.get(b).is_some_and(|cycle| cycle.active) {
+                    looked_at[6] += u64::from(a < seen.len());
+                    assert!(until_cleared(&seen, n, a, off));
+                }
+                // And without it the bound does not hold.
+                without += u64::from(!until_cleared(&seen, n, a, off));
             }
             // "The device rank is never below the channel word's, .. lower .. only in a cycle that clears"
             assert!(cycle.device_rank() >= cycle.rank());
@@ -234,6 +249,6 @@ fn the_bounds_hold_over_random_calls() {
             assert_eq!((usable[n].word & 1, usable[n].word >> 19 & 3), (any, sg));
         }
     }
-    println!("{looked_at:?}");
-    assert!(looked_at.iter().all(|&count| count > 500));
+    println!("{looked_at:?} {without}");
+    assert!(looked_at.iter().all(|&count| count > 500) && without > 200);
 }

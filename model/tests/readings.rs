@@ -251,7 +251,7 @@ fn times_of_0_take_effect_in_the_same_cycle() {
         &[TimeZeroNextCycle],
     );
     row(
-        "lists A and B; 32 = 1000; log; A 0 SBH, B 1 SBH",
+        "lists A and B; 1 = 2; 32 = 1000; log; A 0 SBH, B 1 SBH",
         "1 14000080 14000080 9",
         &[FTimeZeroNextCycle],
     );
@@ -313,12 +313,12 @@ fn cams_are_kept_and_shown_in_an_unusable_cycle() {
 #[test]
 fn cause_13_alone_does_not_hold_an_acknowledgement_up() {
     row(
-        "lists A and B; 32 = 1000; log; A 0 SBH, B 1 SBH; both 1 SBH ack",
+        "lists A and B; 1 = 2; 32 = 1000; log; A 0 SBH, B 1 SBH; both 1 SBH ack",
         "1 14000080 14000080 9
          2 00000080 00000080 1",
         &[Cause13Fresh],
     );
-    let mut channel = Channel::fresh(data(&[(32, 1000)]));
+    let mut channel = Channel::fresh(data(&[(1, 2), (32, 1000)]));
     let far = channel.report(1, 0);
     let first = channel.cycle(0, 0, false, far);
     assert_eq!(first.causes.codes(), [10, 13]);
@@ -506,4 +506,117 @@ fn gear_bits_are_compared_as_they_are() {
         "1 10000080 10000080 1",
         &[GearNotCompared, GearComparedByRatio],
     );
+}
+
+#[test]
+fn active_is_by_what_is_effective_after_this_cycle_s_step_3() {
+    row(
+        "lists A and B; 1 = 1; 26 = 5; 32 = 9; log; A 0 off, B 6 off; both 0 SG1",
+        "1 10000080 10000080 1
+         2 14000081 14000081 9",
+        &[ActiveByCycleBefore, ActiveByFunction0, Cause13Once],
+    );
+    row(
+        "lists A and B; 1 = 1; 3 = 2000; 26 = 5; 32 = 9; log; both 0 SG1; A 0 off, B 6 off",
+        "1 00000081 00000081 1
+         2 10000080 10000080 1",
+        &[ActiveByCycleBefore, ActiveNotAsked],
+    );
+}
+
+#[test]
+fn a_selection_that_waits_is_not_active() {
+    row(
+        "lists A and B; 1 = 1; 26 = 5; 27 = 1; 32 = 9; log; A 0 off, B 6 off; both 0 SBH; both 0 SBH",
+        "1 10000080 10000080 1
+         2 10000080 10000080 1
+         3 14000081 14000081 9",
+        &[ActiveBySelected, ActiveByReport],
+    );
+}
+
+#[test]
+fn neither_nx_nor_external_stops_nor_a_stop_are_active() {
+    row(
+        "lists A and B; 1 = 24; 2 = 10; 26 = 5; 29 = 1; log; A 0 no-stop, B 6 no-stop; both 0 stop-C; both 0 no-stop",
+        "1 10000080 10000080 1
+         2 13000080 13000080 7
+         3 1b000080 1b000080 7",
+        &[ActiveByNx, ActiveByExternalStops, ActiveByStop],
+    );
+}
+
+#[test]
+fn se_and_cams_are_active_by_their_function_alone() {
+    row(
+        "lists A and B; 1 = 2; 26 = 5; 32 = 9; log; A 0 SE1, B 6 SE1",
+        "1 14000080 14000080 9",
+        &[ActiveWithoutSe, ActiveSe2Only, ActiveSeOutside],
+    );
+    row(
+        "lists A and B; 1 = 4; 16..23 = 1000; 26 = 5; 32 = 9; log; A 0 off, B 6 off",
+        "1 14000080 14000080 9",
+        &[ActiveWithoutCams, ActiveCamsAbove],
+    );
+}
+
+#[test]
+fn f_is_set_shown_and_counted_while_nothing_is_active() {
+    row(
+        "lists A and B; 1 = 1; 26 = 5; 32 = 9; 34 = 2; log; A 0 off, B 6 off; both 0 off; both 0 SG1; both 0 SG1 ack",
+        "1 10000080 10000080 1
+         2 10000080 10000080 1
+         3 14000081 14000081 9
+         4 00000081 00000081 1",
+        &[FNotSetInactive, FBitOnlyActive, FCountWaitsInactive, FCountAnewActive],
+    );
+    row(
+        "lists A and B; 26 = 5; log; A 0 off, B 6 off; both 0 off; both 0 off ack",
+        "1 10000080 10000080 1
+         2 10000080 10000080 1
+         3 00000080 00000080 1",
+        &[
+            FOffWhenOver,
+            FBitOverOnlyActive,
+            FBitUntilOver,
+            ClearKeepsFInactive,
+        ],
+    );
+}
+
+#[test]
+fn a_stop_by_cause_13_outlives_what_was_active() {
+    row(
+        "lists A and B; 1 = 1; 3 = 2000; 26 = 5; 32 = 2; log; A 0 SG1, B 6 SG1; both 0 off; both 0 off",
+        "1 14000081 14000081 9
+         2 14000080 14000080 9
+         3 15000084 15000084 a",
+        &[RankFallsInactive, BWaitsInactive],
+    );
+}
+
+#[test]
+fn each_channel_goes_by_what_is_active_in_it() {
+    row(
+        "list A; 1 = 2; 26 = 5; 32 = 9; list B, else as A; 1 = 8; log; A 0 off, B 6 off",
+        "1 14000080 10000080 9",
+        &[ActiveInEither],
+    );
+}
+
+#[test]
+fn code_13_is_absent_while_nothing_is_active() {
+    let mut channel = Channel::fresh(data(&[(1, 9), (32, 1000)]));
+    let far = channel.report(1, 1);
+    let off = channel.cycle(0, 1, false, far);
+    assert_eq!((off.word, off.causes.codes()), (0x1000_0080, &[10][..]));
+    let near = channel.report(0, 1);
+    let off = channel.cycle(0, 1, false, near);
+    assert_eq!((off.word, off.causes.codes()), (0x1000_0080, &[][..]));
+    let near = channel.report(0, 2);
+    let sg1 = channel.cycle(0, 2, false, near);
+    assert_eq!((sg1.word, sg1.causes.codes()), (0x1400_0081, &[13][..]));
+    let near = channel.report(0, 1);
+    let off = channel.cycle(0, 1, false, near);
+    assert_eq!((off.word, off.causes.codes()), (0x1400_0080, &[][..]));
 }

@@ -342,7 +342,7 @@ fn a_lower_selection_waits_and_the_present_one_binds() {
 
 #[test]
 fn f_by_positions_leads_to_b() {
-    let text = "lists A and B\n0 = 12\n26 = 5\n32 = 1\n34 = 2\nlog\n";
+    let text = "lists A and B\n0 = 12\n1 = 2\n26 = 5\n32 = 1\n34 = 2\nlog\n";
     let log = "A 0 SBH, B 5 SBH\nA 0 SBH, B -6 SBH\nboth 0 SBH times 4\nboth 0 SBH ack";
     assert_eq!(
         list(&format!("{text}{log}")),
@@ -356,6 +356,11 @@ fn f_by_positions_leads_to_b() {
 7 00000080 00000080 1
 "
     );
+    // With SE off nothing is active: F alone.
+    let idle = list(&format!("{text}{log}").replace("1 = 2", "1 = 0"));
+    let expected = [0, 1, 1, 1, 1, 1, 0].into_iter().zip(1..);
+    let expected = expected.map(|(f, cycle)| format!("{cycle} {f}0000080 {f}0000080 1\n"));
+    assert_eq!(idle, expected.collect::<String>());
 }
 
 #[test]

@@ -3,16 +3,13 @@
 
 mod common;
 use common::beside;
-use model::conformance::{self, Quote};
+use model::conformance::{self, Quote, LANDED};
 use std::collections::{BTreeMap, BTreeSet};
 use std::fs;
 use std::path::{Path, PathBuf};
 
 const HEAD: &str =
     "| Id | Document 01 | Definition | Theorem or contract | Kits | Wrong programs |";
-
-/// The papers of which a table may hold the sentences: its head's second cell, and a quote's name for it.
-const PAPERS: [(&str, &str); 2] = [("Document 01", "01"), ("Request W1", "02 W1")];
 
 const SECTIONS: &str = "| Section | Sentences |";
 
@@ -22,7 +19,7 @@ const SCRIPT: &str = "script:";
 /// A row of a table: an id and what is cited for its sentence.
 struct Row {
     /// The paper, as a quote names it.
-    paper: &'static str,
+    paper: String,
     id: String,
     sentence: String,
     definitions: String,
@@ -67,13 +64,22 @@ fn cells(line: &str) -> Vec<String> {
         .collect()
 }
 
-/// The paper whose sentences a table with this head holds.
-fn paper(head: &str) -> Option<&'static str> {
-    let of = |(cell, _): &&(&str, &str)| head == HEAD.replace("Document 01", cell);
-    PAPERS.iter().find(of).map(|(_, paper)| *paper)
+/// The head of a table of a request's sentences.
+fn head_of(request: &str) -> String {
+    HEAD.replace("Document 01", &format!("Request {request}"))
 }
 
-fn row(paper: &'static str, line: &str) -> Result<Row, String> {
+/// The paper whose sentences a table with this head holds, as a quote names it: document 01, or a request that has landed.
+fn paper(head: &str) -> Option<String> {
+    if head == HEAD {
+        return Some("01".into());
+    }
+    let mut landed = LANDED.iter();
+    let request = landed.find(|request| head == head_of(request))?;
+    Some(format!("02 {request}"))
+}
+
+fn row(paper: String, line: &str) -> Result<Row, String> {
     match <[String; 6]>::try_from(cells(line)) {
         Ok([id, sentence, definitions, theorems, kits, edits]) => Ok(Row {
             paper,
@@ -430,7 +436,7 @@ fn of_kit(
             section,
             sentence,
         } = quote;
-        let rows = citing.iter().filter(|row| row.paper == paper);
+        let rows = citing.iter().filter(|row| row.paper == *paper);
         let rows = rows.filter(|row| stands(sentence, &row.sentence));
         let ids: Vec<&str> = rows.map(|row| row.id.as_str()).collect();
         if ids.is_empty() {
@@ -620,13 +626,15 @@ fn each_fault_of_a_kit_or_an_edit_is_found() {
 /// A quote of one paper does not stand in a row of another.
 #[test]
 fn a_quote_stands_in_a_row_of_its_paper() {
-    let head = HEAD.replace("Document 01", "Request W1");
+    let (w1, w2) = (head_of("W1"), head_of("W2"));
     let told = "kit k-1: no row that cites it has \"first part\"";
     let mut there = small();
     for (head, paper, fault) in [
         (HEAD, "01", ""),
-        (&*head, "02 W1", ""),
-        (&*head, "01", told),
+        (&*w1, "02 W1", ""),
+        (&*w2, "02 W2", ""),
+        (&*w1, "01", told),
+        (&*w1, "02 W2", told),
         (HEAD, "02 W1", told),
     ] {
         // The first row stands below the head that is tried, all else below the other.
@@ -637,7 +645,8 @@ fn a_quote_stands_in_a_row_of_its_paper() {
         }
         assert_eq!(faults(&page(&text), &there).join("; "), fault, "{paper}");
     }
-    assert_eq!(paper("| Id | Request W2 | Definition |"), None);
+    assert_eq!(paper("| Id | Request W1 | Definition |"), None);
+    assert_eq!(paper(&head_of("W14")), None);
 }
 
 #[test]

@@ -2,13 +2,14 @@
 
 use super::reached::{add_each, named, CODES, RANKS};
 use super::{damage, drive, Parts, Xorshift};
+use crate::causes;
 use crate::channel::image::{self, Image, Lent, WORDS};
 use crate::channel::{bit, Report};
 use crate::gear::GEAR_BITS;
 use crate::list::Refusal;
 use crate::log::Record;
 use crate::machine_data::{COUNT, HEADS};
-use crate::{device, list, log, words};
+use crate::{device, list, log, words, Paper};
 use std::fmt;
 
 /// How many channels a list of calls has.
@@ -450,6 +451,8 @@ named! {
         OtherCount: "a cycle of a list with another count",
         OtherHead: "a cycle with a report of another head",
         HeadAlone: "cause 12 by the head alone",
+        FOverInactive: "no cause 13 with F's count at 0, as nothing is active",
+        Cause13Later: "cause 13 by a selection that came later",
         GearOfList: "a cycle with a gear's bits and a list headed 67",
         GearOfCount: "a cycle with a gear's bits and a count above 67",
         GearBelow67: "a cycle with a gear's bits and a count below 67",
@@ -577,6 +580,7 @@ impl ReachedCalls {
                 let own = before.0[of].report(0, 0);
                 let alone = codes.contains(&12) && own.datum == report.datum;
                 self.event(Event::HeadAlone, alone);
+                self.f(&before.0[of], codes);
                 self.cycle(word, codes, &mut pasts[of]);
                 pasts[of].k = before.0[of].channel().k();
             }
@@ -601,6 +605,16 @@ impl ReachedCalls {
             }
             _ => (),
         }
+    }
+
+    /// What F comes to that was over before the cycle.
+    fn f(&mut self, before: &Lent, codes: [u8; 13]) {
+        let channel = before.channel();
+        let over = channel.f().time_is_over() && !codes.contains(&1);
+        let active = causes::active(Paper, channel.data(), channel.selections());
+        let stands = codes.contains(&13);
+        self.event(Event::FOverInactive, over && !stands);
+        self.event(Event::Cause13Later, over && !active && stands);
     }
 
     fn read(&mut self, read: Result<usize, Refusal>, past: bool) {

@@ -300,7 +300,17 @@ impl<'a> Driver<'a> {
                 self.inputs &= !NO_STOP;
             }
         }
+        self.meet_f();
         self.inputs
+    }
+
+    /// Where only a selection can be active, one comes and goes while F is on, so that its end is met with and without.
+    fn meet_f(&mut self) {
+        let data = self.a.data();
+        let other = data.has(Paper, Function::Se) || data.has(Paper, Function::Cams);
+        if self.a.f().on && !other && self.random.percent(25) {
+            self.inputs ^= 1;
+        }
     }
 
     /// The bits of a selection with an override.

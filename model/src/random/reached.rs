@@ -1,6 +1,7 @@
 //! What random kits reach, counted.
 
 use super::layers::Layer;
+use crate::causes;
 use crate::channel::{Channel, Cycle};
 use crate::gear::{Ratio, GEAR_BITS};
 use crate::log::{self, Side};
@@ -56,6 +57,9 @@ named! {
         FSet: "F set",
         FCounts: "F counts",
         FToCause13: "F leads to cause 13",
+        FOverInactive: "F's count is 0 and nothing is active",
+        Cause13Later: "cause 13 by a selection that came later",
+        BOutlivesCause13: "STOP B with F's count at 0 and nothing active any more",
         Clears: "a cycle clears",
         ClearsWithCause13: "clears with cause 13 alone",
         HeldUp: "an acknowledgement is held up by a fresh cause",
@@ -397,6 +401,14 @@ impl Reached {
         self.event(Event::FSet, !before.f().on && differs);
         self.event(Event::FCounts, before.f().on && after.f().count > 0);
         self.event(Event::FToCause13, causes.stands(13));
+        let active =
+            |channel: &Channel| causes::active(Paper, channel.data(), channel.selections());
+        let idle = after.f().time_is_over() && !active(after);
+        self.event(Event::FOverInactive, idle);
+        let waited = before.f().time_is_over() && !active(before);
+        self.event(Event::Cause13Later, waited && causes.stands(13));
+        let was_b = before.stop().rank == Rank::B && after.stop().rank == Rank::B;
+        self.event(Event::BOutlivesCause13, idle && was_b && active(before));
         self.event(
             Event::Clears,
             acknowledged && !causes.any_fresh() && before.stop().rank != Rank::None,

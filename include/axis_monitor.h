@@ -37,7 +37,7 @@ typedef struct monitor_channel {
 #define MONITOR_STATE_DELAY 9         /* cycles left of a lowering */
 #define MONITOR_STATE_DIFFERING 10    /* usable cycles running in which the input words differ */
 #define MONITOR_STATE_F 11            /* 1 if F is on */
-#define MONITOR_STATE_F_LEFT 12       /* cycles left to cause 13 */
+#define MONITOR_STATE_F_LEFT 12       /* cycles left of F's time */
 #define MONITOR_STATE_STOP 13         /* MONITOR_FREE, MONITOR_BRAKING, MONITOR_HELD or MONITOR_CANCELLED */
 #define MONITOR_STATE_RANK 14         /* the stop's rank, while braking or held */
 #define MONITOR_STATE_REST 15         /* cycles left while braking; the hold's reference, signed, while held */
@@ -113,7 +113,7 @@ typedef struct monitor_channel {
 #define MONITOR_CAUSE_POSITION 10 /* position differs from the report */
 #define MONITOR_CAUSE_INPUTS 11   /* input words differ for too long */
 #define MONITOR_CAUSE_DATUM 12    /* datum k or the number of data differs */
-#define MONITOR_CAUSE_F 13        /* F's time is over */
+#define MONITOR_CAUSE_F 13        /* F's time is over, and SBH or an SG is effective, or SE or the cams are on */
 
 /* Answers of monitor_read_list and monitor_run_log, and told[0] of monitor_run_kit. */
 #define MONITOR_ACCEPTED 0       /* accepted */

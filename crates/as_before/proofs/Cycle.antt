@@ -1,22 +1,15 @@
 -- A cycle is alike under two rules that agree in it; and under the rules of now it is the one of the contracts. Assumes nothing.
-use Prim.Native.Nat.{ℕ}
 use mathlib.Core.Path.{_≡_, refl, sym, ap, _∙_}
 use mathlib.Core.Bool.{Bool, true, false, not, cond, _&&_, true≢false}
-use mathlib.Core.List.{List, [], _∷_}
 use Rattle.machine_data.specs.declared.MachineData.{MachineData}
-use Rattle.speed.specs.declared.Step.{Step}
-use Rattle.rank.specs.declared.Rank.the-variants as R
 use Rattle.stop.specs.declared.Stop.the-variants.{Cancelled}
 use Rattle.distance.specs.declared.Previous.the-variants.{Absent}
 use Rattle.comparison.specs.declared.Fault.{Fault}
 use Rattle.comparison.specs.Comparison.{faultNext}
-use Rattle.causes.specs.Causes.{cause, summaryOf, strongestOf, freshOf}
-use Rattle.causes.specs.declared.Cause.{Cause}
+use Rattle.causes.specs.Causes.{summaryOf, strongestOf, freshOf}
 use Rattle.channel_word.specs.Word.{belowNx}
 use Rattle.state.specs.declared.State.{State}
 use Rattle.state.specs.declared.Given.{Given}
-use Rattle.judge.specs.declared.Differences.{Differences}
-use Rattle.judge.specs.declared.Findings.{Findings}
 use Rattle.judge.specs.Causes.{choiceIn, differingIn, differencesIn, anyDiffers, faultIn, table, usableRows, rowsOf}
 use Rattle.advance.specs.After.{usableNext, shownWord}
 use Rattle.channel.specs.Cycle.{strongestIn, clearsIn, next}

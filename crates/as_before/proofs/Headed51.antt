@@ -24,12 +24,11 @@ use Rattle.speed.specs.Speed.{speedOf, tooFast, slower}
 use Rattle.speed.proofs.Load.{too-fast-plain, slower-plain}
 use Rattle.report.specs.declared.Report.{Report}
 use Rattle.report.specs.Report.{nextK, reportOf, datumDiffers}
-use Rattle.comparison.specs.Comparison.{positionDiffers, inputsDiffer, faultNext}
 use Rattle.active.specs.Active.{faultStops}
 use Rattle.state.specs.declared.State.{State}
 use Rattle.state.specs.declared.Given.{Given}
 use Rattle.seven.specs.declared.CycleRecord.{CycleRecord}
-use Rattle.judge.specs.Causes.{choiceIn, differingIn, anyDiffers, rowsOf}
+use Rattle.judge.specs.Causes.{rowsOf}
 use Rattle.list.specs.declared.ListAnswer as A
 use Rattle.list.specs.Rules.{isHead}
 use Rattle.list.specs.IsList.{IsList, list}
@@ -47,7 +46,7 @@ use Rattle.as_before.specs.Runs.{runningUnder, listedUnder}
 use Rattle.as_before.specs.Kept.{Headed51, Ungeared, UngearedKit}
 use Rattle.as_before.proofs.Lists.{read-51}
 use Rattle.as_before.proofs.Cycle.{Agree, rows-same, next-same, word-same, rows-now, next-now, word-now}
-use Rattle.as_before.proofs.Runs.{AgreeBoth, AgreeAlong, AgreeKit, running-same, listed-same, running-now, listed-now}
+use Rattle.as_before.proofs.Runs.{AgreeAlong, running-same, listed-same, running-now, listed-now}
 
 -- ---- the comparisons of a step with the ratio 1 to 1 are document 01's
 

@@ -1,7 +1,7 @@
 -- A log's run and a kit's listing are alike under two rules that agree in each cycle; and under the rules of now they are those of the contracts.
 -- Assumes nothing.
 use Prim.Native.Nat.{ℕ, _+_, _*_}
-use mathlib.Core.Path.{_≡_, refl, sym, ap, _∙_}
+use mathlib.Core.Path.{_≡_, refl, ap, _∙_}
 use mathlib.Core.Bool.{Bool, cond}
 use mathlib.Core.List.{List, [], _∷_, _++_}
 use lib.ListN.{length, drop}
@@ -11,7 +11,6 @@ use Rattle.machine_data.specs.declared.MachineData.{MachineData}
 use Rattle.inputs.specs.declared.Reading.{Reading}
 use Rattle.seven.specs.declared.CycleRecord.{CycleRecord}
 use Rattle.records.specs.Records.{LogRead, records, fault, logOf}
-use Rattle.state.specs.declared.Given.{Given}
 use Rattle.state.specs.State.{freshState}
 use Rattle.device.specs.Device.{deviceOf}
 use Rattle.list.specs.declared.ListRead.{ListRead}

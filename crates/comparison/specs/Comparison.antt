@@ -1,4 +1,4 @@
--- Causes 10, 11 and 13, and F: document 01, step 4.
+-- Causes 10 and 11, and F: document 01, step 4.
 use Prim.Native.Nat.{ℕ, _+_, _-_, min}
 use mathlib.Core.Bool.{Bool, true, false, cond, _&&_}
 use mathlib.Core.List.{List}
@@ -27,7 +27,7 @@ faultNext d differs f =
     cond (f .on) (record { on = true; left = f .left - 1 })
     (record { on = differs; left = cond differs (numberOf d 34) 0 })
 
--- "at 0, with F on, stands cause 13"
+-- "at 0, with F on"
 unfoldable pub expired : Fault → Bool
 expired f = f .on && eqb (f .left) 0
 

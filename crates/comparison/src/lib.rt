@@ -1,4 +1,4 @@
-// The crosswise comparison of the channels, causes 10, 11 and 13: what differs, and F with its time to B. Cause 12 stands in report.
+// The crosswise comparison of the channels, causes 10 and 11: what differs, and F with its time to B. Cause 12 stands in report, 13 in active.
 ghost use mathlib.Core.Path.{_≡_};
 ghost use mathlib.Core.Bool.{cond};
 ghost use Prim.Native.Nat.{_-_};
@@ -85,7 +85,7 @@ impl Fault {
         }
     }
 
-    // Cause 13.
+    // F is on, and its time is over.
     pub fn expired(self) -> bool
         ensures { λ r. ⌜ r ≡ expired self ⌝ }
     {

@@ -398,7 +398,7 @@ fn reports_by_other_channels_and_k_out_of_step() {
     let k = |pair: &Pair| pair.proved.state[image::word::K];
     assert_eq!((k(&a), k(&b)), (14, 13));
     // Any report at all: of nobody's position, inputs and datum.
-    let mut c = Pair::fresh(data(&[(0, 12), (34, 2)]));
+    let mut c = Pair::fresh(data(&[(0, 12), (1, 4), (34, 2)]));
     let own = c.report(0, 1);
     let (position, inputs, datum) = (i32::MIN, u32::MAX, 13);
     assert_eq!(c.cycle(0, 1, Report { position, ..own }).1, [10]);
@@ -407,6 +407,12 @@ fn reports_by_other_channels_and_k_out_of_step() {
     assert_eq!(c.cycle(0, 1, Report { datum, ..own }).1, [12, 13]);
     let own = c.report(0, 1);
     assert_eq!(c.cycle(0, 1, own).1, [13]);
+    // Nothing is active: F stands without 13.
+    let mut idle = Pair::fresh(data(&[(0, 12), (1, 8)]));
+    let own = idle.report(0, 1);
+    assert_eq!(idle.cycle(0, 1, Report { datum, ..own }).1, [12]);
+    let own = idle.report(0, 1);
+    assert_eq!(idle.cycle(0, 1, own).1, []);
 }
 
 #[test]

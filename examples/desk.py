@@ -15,7 +15,7 @@ Data, State, Report, Codes = c_int32 * 67, c_uint32 * 17, c_uint32 * 4, c_uint8 
 
 def main(library, kit, cycles=None):
     monitor = CDLL(library)
-    if monitor.monitor_interface() != 2:
+    if monitor.monitor_interface() != 3:
         sys.exit("desk: the library has another interface")
     monitor.monitor_report.argtypes = [Data, State, c_int32, c_uint32, Report]
     monitor.monitor_cycle.argtypes = [Data, State, c_int32, c_uint32, c_uint32, Report, Codes]

@@ -1,8 +1,8 @@
--- W2: where one of SBH, SG, SE and cams is active in each usable cycle, the causes, the state, the word, a log's run and a kit's listing are as they were.
--- Assumes nothing.
-use Prim.Native.Nat.{ℕ, zero, suc}
+-- W2: where one of SBH, SG, SE and cams is active whenever F's time is over in a usable cycle, the causes, the state, the word, a log's run and a kit's
+-- listing are as they were. Assumes nothing.
+use Prim.Native.Nat.{ℕ}
 use mathlib.Core.Path.{_≡_, refl, sym, _∙_, subst}
-use mathlib.Core.Bool.{Bool, true, false, cond, _&&_, _||_}
+use mathlib.Core.Bool.{Bool, true, false, _&&_, _||_}
 use mathlib.Core.List.{List, [], _∷_}
 use lib.Dec.{T}
 use lib.IntN.{ℤ}
@@ -11,15 +11,15 @@ use Rattle.machine_data.specs.declared.MachineData.{MachineData}
 use Rattle.machine_data.specs.Data.{functionOf}
 use Rattle.inputs.specs.Usable.{usableOf}
 use Rattle.selection.specs.declared.Selection.{Selection}
-use Rattle.selection.specs.declared.Choice.{Choice}
-use Rattle.selection.specs.Selection.{isEffective, selectedOf, stricter, boundOf, delayCount, waitedOf, choiceNext}
+use Rattle.selection.specs.Selection.{isEffective, selectedOf}
+use Rattle.selection.proofs.Effective.{effective-one-of}
 use Rattle.comparison.specs.declared.Fault.{Fault}
 use Rattle.comparison.specs.Comparison.{expired}
 use Rattle.active.specs.Active.{active, faultStops}
 use Rattle.seven.specs.declared.CycleRecord.{CycleRecord}
 use Rattle.state.specs.declared.State.{State}
 use Rattle.state.specs.declared.Given.{Given}
-use Rattle.judge.specs.Causes.{choiceIn, rowsOf}
+use Rattle.judge.specs.Causes.{choiceIn, differencesIn, faultIn, rowsOf}
 use Rattle.channel.specs.declared.Channel.{Channel}
 use Rattle.channel.specs.Cycle.{next}
 use Rattle.channel.specs.Word.{word}
@@ -29,73 +29,58 @@ use Rattle.listing.specs.Listing.{listed}
 use Rattle.as_before.specs.Rules.{now, beforeW2, document01, inEveryCase}
 use Rattle.as_before.specs.Cycle.{rowsUnder, nextUnder, wordUnder}
 use Rattle.as_before.specs.Runs.{runningUnder, listedUnder}
-use Rattle.as_before.specs.Kept.{Headed51, UngearedKit, Enabled, ActiveAt, ActiveAlong, ActiveKit, Selects, SelectsAlong, Chosen}
+use Rattle.as_before.specs.Kept.{Headed51, UngearedKit, Enabled, ActiveAtEnd, ActiveAtEnds, ActiveKit, Selects, SelectsAlong, EffectiveIfChosen}
 use Rattle.as_before.proofs.Cycle.{Agree, rows-same, next-same, word-same, rows-now, next-now, word-now}
 use Rattle.as_before.proofs.Runs.{AgreeAlong, running-same, listed-same, both-now, running-now, listed-now}
 use Rattle.as_before.proofs.Headed51.{running-ungeared, listed-ungeared}
 
--- ---- who is active
+-- ---- what is active
 
 module _ (m : MachineData) (s : State) (g : Given) where
   -- "SBH or SG is effective"
-  pub effective-active : T (isEffective (choiceIn m s g .effective)) → ActiveAt m s g
+  pub effective-active : T (isEffective (choiceIn m s g .effective)) → ActiveAtEnd m s g
   unfolding active
-  effective-active t u = or-left (isEffective (choiceIn m s g .effective)) (functionOf (m .values) 1 || functionOf (m .values) 2) t
+  effective-active t u e = or-left (isEffective (choiceIn m s g .effective)) (functionOf (m .values) 1 || functionOf (m .values) 2) t
 
   -- "or SE or cams are enabled"
-  pub enabled-active : Enabled m → ActiveAt m s g
+  pub enabled-active : Enabled m → ActiveAtEnd m s g
   unfolding active
-  enabled-active t u = or-right (isEffective (choiceIn m s g .effective)) (functionOf (m .values) 1 || functionOf (m .values) 2) t
+  enabled-active t u e = or-right (isEffective (choiceIn m s g .effective)) (functionOf (m .values) 1 || functionOf (m .values) 2) t
 
--- a choice takes what is selected, or keeps what it has chosen
-choice-effective : (d : List ℤ) (x : Choice) (sel : Selection) (position : ℤ) → T (isEffective sel) → (x .chosen ≡ true → T (isEffective (x .effective))) →
-    T (isEffective (choiceNext d x sel position .effective))
-unfolding choiceNext
-choice-effective d x sel position t h = go (x .chosen) refl (stricter d sel (x .effective))
-  where
-    waits : T (isEffective (x .effective)) → (n : ℕ) → T (isEffective (waitedOf x sel position n .effective))
-    waits e zero = t
-    waits e (suc n) = e
-
-    go : (b : Bool) → x .chosen ≡ b → (c : Bool) →
-        T (isEffective (cond (b && c) (waitedOf x sel position (delayCount d (x .left))) (boundOf x sel position) .effective))
-    go true e true = waits (h e) (delayCount d (x .left))
-    go true e false = t
-    go false e c = t
-
-module _ (m : MachineData) (s : State) (g : Given) (t : Selects m (g .reading)) (h : Chosen s) where
+module _ (m : MachineData) (s : State) (g : Given) (t : Selects m (g .reading)) (h : EffectiveIfChosen s) where
   selecting : T (usableOf m (g .reading)) → T (isEffective (choiceIn m s g .effective))
   unfolding choiceIn
-  selecting u = choice-effective (m .values) (s .kept .choice) (selectedOf (m .values) (g .reading .inputs)) (g .reading .position) (t u) h
+  selecting u = effective-one-of (λ x. T (isEffective x)) (m .values) (s .kept .choice) (selectedOf (m .values) (g .reading .inputs)) (g .reading .position) (t u) h
 
-  chosen-next : Chosen (next m s g)
+  effective-next : EffectiveIfChosen (next m s g)
   unfolding next
-  chosen-next = if-case Chosen (usableOf m (g .reading)) _ _ (λ u _. selecting (subst T (sym u) tt)) (λ _. h)
+  effective-next = if-case EffectiveIfChosen (usableOf m (g .reading)) _ _ (λ u _. selecting (subst T (sym u) tt)) (λ _. h)
 
-  selecting-active : ActiveAt m s g
+  selecting-active : ActiveAtEnd m s g
   selecting-active u = effective-active m s g (selecting u) u
 
 -- ---- the rules agree
 
--- where one is active, F's end stops in every case
-pub stops-active : (d : List ℤ) (effective : Selection) (f : Fault) → T (active d effective) → faultStops d effective f ≡ inEveryCase d effective f
+-- where one is active when F's time is over, that stops in every case
+pub stops-active : (d : List ℤ) (effective : Selection) (f : Fault) → (T (expired f) → T (active d effective)) → faultStops d effective f ≡ inEveryCase d effective f
 unfolding faultStops
 stops-active d effective f = go (expired f) (active d effective)
   where
-    go : (a b : Bool) → T b → a && b ≡ a
-    go true true t = refl
-    go true false t = absurd t
-    go false b t = refl
+    go : (a b : Bool) → (T a → T b) → a && b ≡ a
+    go true true h = refl
+    go true false h = absurd (h tt)
+    go false b h = refl
 
-module _ (m : MachineData) (s : State) (g : Given) (a : ActiveAt m s g) where
+module _ (m : MachineData) (s : State) (g : Given) (a : ActiveAtEnd m s g) where
   agree-active : Agree now beforeW2 m s g
+  unfolding faultIn differencesIn
   agree-active =
       record {
         usable = refl;
         ratio = refl;
         rise = refl;
         differs = refl;
-        stops = λ u f. stops-active (m .values) (choiceIn m s g .effective) f (a (subst T (sym u) tt));
+        stops = λ u. stops-active (m .values) (choiceIn m s g .effective) (faultIn m s g) (a (subst T (sym u) tt));
       }
 
   -- the causes, the state after the cycle and its word
@@ -109,7 +94,7 @@ module _ (m : MachineData) (s : State) (g : Given) (a : ActiveAt m s g) where
   word-active = word-now m s g ∙ word-same now beforeW2 m s g agree-active
 
 module _ (da db : MachineData) where
-  along-active : (x : Both) (rs : List CycleRecord) → ActiveAlong da db x rs → AgreeAlong now beforeW2 da db x rs
+  along-active : (x : Both) (rs : List CycleRecord) → ActiveAtEnds da db x rs → AgreeAlong now beforeW2 da db x rs
   along-active x [] h = tt
   along-active x (r ∷ rs) h = (
     record {
@@ -122,13 +107,13 @@ module _ (da db : MachineData) where
   )
 
   -- where SE or cams are enabled in both lists, any run
-  pub enabled-along : Enabled da → Enabled db → (x : Both) (rs : List CycleRecord) → ActiveAlong da db x rs
+  pub enabled-along : Enabled da → Enabled db → (x : Both) (rs : List CycleRecord) → ActiveAtEnds da db x rs
   enabled-along a b x [] = tt
   enabled-along a b x (r ∷ rs) =
       (enabled-active da (x .a) (givenA da db x r) a, enabled-active db (x .b) (givenB da db x r) b, enabled-along a b (deviceCycle da db x r .both) rs)
 
   -- where every usable input word selects SBH or SG, any run
-  pub selecting-along : (x : Both) → Chosen (x .a) → Chosen (x .b) → (rs : List CycleRecord) → SelectsAlong da db rs → ActiveAlong da db x rs
+  pub selecting-along : (x : Both) → EffectiveIfChosen (x .a) → EffectiveIfChosen (x .b) → (rs : List CycleRecord) → SelectsAlong da db rs → ActiveAtEnds da db x rs
   unfolding deviceCycle
   selecting-along x a b [] h = tt
   selecting-along x a b (r ∷ rs) h =
@@ -136,11 +121,11 @@ module _ (da db : MachineData) where
       let gb = givenB da db x r in (
         selecting-active da (x .a) ga (h .0) a,
         selecting-active db (x .b) gb (h .1) b,
-        selecting-along (deviceCycle da db x r .both) (chosen-next da (x .a) ga (h .0) a) (chosen-next db (x .b) gb (h .1) b) rs (h .2),
+        selecting-along (deviceCycle da db x r .both) (effective-next da (x .a) ga (h .0) a) (effective-next db (x .b) gb (h .1) b) rs (h .2),
       )
 
 -- what an accepted log leaves: both channels and the whole output
-pub running-active : (a b : Channel) (out : List ℕ) (rs : List CycleRecord) → ActiveAlong (a .list) (b .list) (bothOf a b) rs →
+pub running-active : (a b : Channel) (out : List ℕ) (rs : List CycleRecord) → ActiveAtEnds (a .list) (b .list) (bothOf a b) rs →
     running a b out rs ≡ runningUnder beforeW2 a b out rs
 running-active a b out rs h = running-now a b out rs ∙ running-same now beforeW2 a b out rs (along-active (a .list) (b .list) (bothOf a b) rs h)
 
@@ -153,7 +138,7 @@ listed-active bytes h =
 -- ---- with lists headed 51 besides, all is as document 01 has it
 
 pub running-01 : (a b : Channel) → Headed51 (a .list) → Headed51 (b .list) → (out : List ℕ) (rs : List CycleRecord) →
-    ActiveAlong (a .list) (b .list) (bothOf a b) rs → running a b out rs ≡ runningUnder document01 a b out rs
+    ActiveAtEnds (a .list) (b .list) (bothOf a b) rs → running a b out rs ≡ runningUnder document01 a b out rs
 running-01 a b ha hb out rs h = running-active a b out rs h ∙ running-ungeared inEveryCase a b ha hb out rs
 
 pub listed-01 : (bytes : List ℕ) → UngearedKit (wordsOf bytes) → ActiveKit (wordsOf bytes) → listed bytes ≡ listedUnder document01 bytes

@@ -4,7 +4,6 @@ use mathlib.Core.Bool.{Bool, true, false, not, cond, _&&_, true≢false}
 use Rattle.machine_data.specs.declared.MachineData.{MachineData}
 use Rattle.stop.specs.declared.Stop.the-variants.{Cancelled}
 use Rattle.distance.specs.declared.Previous.the-variants.{Absent}
-use Rattle.comparison.specs.declared.Fault.{Fault}
 use Rattle.comparison.specs.Comparison.{faultNext}
 use Rattle.causes.specs.Causes.{summaryOf, strongestOf, freshOf}
 use Rattle.channel_word.specs.Word.{belowNx}
@@ -48,7 +47,7 @@ module _ (p q : Rules) (m : MachineData) (s : State) (g : Given) where
     pub ratio : p .ratio (m .values) (g .reading .inputs) ≡ q .ratio (m .values) (g .reading .inputs)
     pub rise : p .rise (m .count) (s .k) ≡ q .rise (m .count) (s .k)
     pub differs : p .differs m (s .k) (g .report) ≡ q .differs m (s .k) (g .report)
-    pub stops : p .usable m (g .reading) ≡ true → (f : Fault) → p .stops (m .values) (choiceIn m s g .effective) f ≡ q .stops (m .values) (choiceIn m s g .effective) f
+    pub stops : p .usable m (g .reading) ≡ true → stopsUnder p m s g ≡ q .stops (m .values) (choiceIn m s g .effective) (faultUnder p m s g)
 
   module _ (same : Agree) where
     step-same : stepUnder p m s g ≡ stepUnder q m s g
@@ -63,7 +62,7 @@ module _ (p q : Rules) (m : MachineData) (s : State) (g : Given) where
     -- in a usable cycle
     module _ (u : p .usable m (g .reading) ≡ true) where
       stops-same : stopsUnder p m s g ≡ stopsUnder q m s g
-      stops-same = same .stops u (faultUnder p m s g) ∙ ap (q .stops (m .values) (choiceIn m s g .effective)) fault-same
+      stops-same = same .stops u ∙ ap (q .stops (m .values) (choiceIn m s g .effective)) fault-same
 
       usable-rows-same : usableRowsUnder p m s g ≡ usableRowsUnder q m s g
       usable-rows-same = λ i. table (m .values) (s .stop) (g .reading) (choiceIn m s g) (step-same i) (differences-same i) (stops-same i)

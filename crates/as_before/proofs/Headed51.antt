@@ -40,7 +40,7 @@ use Rattle.channel.specs.Word.{word}
 use Rattle.log.specs.Run.{Both, bothOf, running}
 use Rattle.kit_bytes.specs.KitBytes.{wordsOf}
 use Rattle.listing.specs.Listing.{listed}
-use Rattle.as_before.specs.Rules.{Stops, geared, ungeared, plain, spare51, usable51, nextK51, entry51, report51, differs51}
+use Rattle.as_before.specs.Rules.{Cause13, geared, ungeared, plain, spare51, usable51, nextK51, entry51, report51, differs51}
 use Rattle.as_before.specs.Cycle.{rowsUnder, nextUnder, wordUnder}
 use Rattle.as_before.specs.Runs.{runningUnder, listedUnder}
 use Rattle.as_before.specs.Kept.{Headed51, Ungeared, UngearedKit}
@@ -152,7 +152,7 @@ headed s n plain e = of-list (accepted s (readList s .list) n .0 (whole-answer s
 
 -- ---- the rules agree
 
-module _ (stops : Stops) where
+module _ (stops : Cause13) where
   module _ (m : MachineData) (h : Headed51 m) (s : State) (g : Given) (head : g .report .head ≡ 51) where
     pub agree-51 : Agree (geared stops) (ungeared stops) m s g
     agree-51 =
@@ -161,7 +161,7 @@ module _ (stops : Stops) where
           ratio = ratio-51 m h (gearNumber (g .reading .inputs));
           rise = ap (λ (n : ℕ). nextK n (s .k)) (h .count) ∙ next-k-51 (s .k);
           differs = differs-51 m h (s .k) (g .report) head;
-          stops = λ u f. refl;
+          stops = λ u. refl;
         }
 
   report-51 : (m : MachineData) → Headed51 m → (k : ℕ) (r : Reading) → reportOf m k r ≡ report51 m k r

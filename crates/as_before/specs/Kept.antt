@@ -13,13 +13,14 @@ use Rattle.machine_data.specs.Data.{functionOf}
 use Rattle.inputs.specs.declared.Reading.{Reading}
 use Rattle.inputs.specs.Usable.{usableOf}
 use Rattle.selection.specs.Selection.{selectedOf, isEffective}
+use Rattle.comparison.specs.Comparison.{expired}
 use Rattle.active.specs.Active.{active}
 use Rattle.seven.specs.declared.CycleRecord.{CycleRecord}
 use Rattle.records.specs.Records.{records, logOf}
 use Rattle.state.specs.declared.State.{State}
 use Rattle.state.specs.declared.Given.{Given}
 use Rattle.state.specs.State.{freshState}
-use Rattle.judge.specs.Causes.{choiceIn}
+use Rattle.judge.specs.Causes.{choiceIn, faultIn}
 use Rattle.list.specs.declared.ListAnswer.the-variants.{Accepted}
 use Rattle.list.specs.Reading.{readList}
 use Rattle.log.specs.Run.{Both, givenA, givenB, deviceCycle}
@@ -46,30 +47,32 @@ pub record UngearedKit (words : List ℕ) : Type 0 where
 abbrev pub Enabled : MachineData → Type 0
 Enabled m = T (functionOf (m .values) 1 || functionOf (m .values) 2)
 
--- one of SBH, SG, SE and cams is active in a cycle, or it is unusable
-abbrev pub ActiveAt : MachineData → State → Given → Type 0
-ActiveAt m s g = T (usableOf m (g .reading)) → T (active (m .values) (choiceIn m s g .effective))
+-- where F's time is over in a usable cycle, one of SBH, SG, SE and cams is active in it
+abbrev pub ActiveAtEnd : MachineData → State → Given → Type 0
+ActiveAtEnd m s g = T (usableOf m (g .reading)) → T (expired (faultIn m s g)) → T (active (m .values) (choiceIn m s g .effective))
 
 -- in every cycle of a log's run, and in both channels
-abbrev pub ActiveAlong : MachineData → MachineData → Both → List CycleRecord → Type 0
-ActiveAlong da db x [] = Unit {0}
-ActiveAlong da db x (r ∷ rs) =
-    ActiveAt da (x .a) (givenA da db x r) × ActiveAt db (x .b) (givenB da db x r) × ActiveAlong da db (deviceCycle da db x r .both) rs
+abbrev pub ActiveAtEnds : MachineData → MachineData → Both → List CycleRecord → Type 0
+ActiveAtEnds da db x [] = Unit {0}
+ActiveAtEnds da db x (r ∷ rs) =
+    ActiveAtEnd da (x .a) (givenA da db x r) × ActiveAtEnd db (x .b) (givenB da db x r) × ActiveAtEnds da db (deviceCycle da db x r .both) rs
 
--- so where each usable input word of a log selects SBH or SG, in both channels, on channels that have it so already or are fresh
-abbrev pub Selects : MachineData → Reading → Type 0
-Selects m r = T (usableOf m r) → T (isEffective (selectedOf (m .values) (r .inputs)))
-
-abbrev pub SelectsAlong : MachineData → MachineData → List CycleRecord → Type 0
-SelectsAlong da db [] = Unit {0}
-SelectsAlong da db (r ∷ rs) = Selects da (r .a) × Selects db (r .b) × SelectsAlong da db rs
-
-abbrev pub Chosen : State → Type 0
-Chosen s = s .kept .choice .chosen ≡ true → T (isEffective (s .kept .choice .effective))
-
--- and in the run of a kit, if it has one
+-- in the run of a kit, if it has one
 abbrev pub ActiveKit : List ℕ → Type 0
 ActiveKit words =
     (n m : ℕ) → readList words .answer ≡ Accepted n → readList (drop n words) .answer ≡ Accepted m →
     (rs : List CycleRecord) → logOf (drop (n + m) words) ≡ records rs →
-    ActiveAlong (readList words .list) (readList (drop n words) .list) (record { a = freshState; b = freshState }) rs
+    ActiveAtEnds (readList words .list) (readList (drop n words) .list) (record { a = freshState; b = freshState }) rs
+
+-- what suffices for these, besides `Enabled` of both lists: a usable input word selects SBH or SG,
+abbrev pub Selects : MachineData → Reading → Type 0
+Selects m r = T (usableOf m r) → T (isEffective (selectedOf (m .values) (r .inputs)))
+
+-- in every cycle of a log, and in both channels,
+abbrev pub SelectsAlong : MachineData → MachineData → List CycleRecord → Type 0
+SelectsAlong da db [] = Unit {0}
+SelectsAlong da db (r ∷ rs) = Selects da (r .a) × Selects db (r .b) × SelectsAlong da db rs
+
+-- on a channel that is fresh, or in which one of them is effective
+abbrev pub EffectiveIfChosen : State → Type 0
+EffectiveIfChosen s = s .kept .choice .chosen ≡ true → T (isEffective (s .kept .choice .effective))

@@ -21,8 +21,8 @@ use Rattle.list.specs.Reading.{readList}
 use Rattle.as_before.specs.Lists.{read51}
 
 -- whether cause 13 stands, by the data, the effective selection and F
-abbrev pub Stops : Type 0
-Stops = List ℤ → Selection → Fault → Bool
+abbrev pub Cause13 : Type 0
+Cause13 = List ℤ → Selection → Fault → Bool
 
 pub record Rules : Type 0 where
   -- how a list is read, which inputs are usable, the ratio of a step, what follows k, a report, and cause 12
@@ -33,11 +33,11 @@ pub record Rules : Type 0 where
   pub report : MachineData → ℕ → Reading → Report
   pub differs : MachineData → ℕ → Report → Bool
   -- cause 13
-  pub stops : Stops
+  pub stops : Cause13
 
 -- ---- since W1
 
-abbrev pub geared : Stops → Rules
+abbrev pub geared : Cause13 → Rules
 geared stops =
     record { read = readList; usable = usableOf; ratio = ratioIn; rise = nextK; report = reportOf; differs = datumDiffers; stops = stops }
 
@@ -51,7 +51,7 @@ spare51 w = w / 2 ^ 2 % 2 ^ 1 + w / 2 ^ 5 % 2 ^ 7 + w / 2 ^ 13 % 2 ^ 5 + w / 2 ^
 abbrev pub usable51 : Reading → Bool
 usable51 r = leb (natAbs (r .position)) 100_000_000 && eqb (spare51 (r .inputs)) 0
 
--- a step is |d|: that the comparisons of one with the ratio 1 to 1 are document 01's is `too-fast-51` and `slower-51` in proofs/Headed51.antt
+-- a step is |d|
 abbrev pub plain : Ratio
 plain = record { numerator = 1; denominator = 1 }
 
@@ -71,7 +71,7 @@ report51 m k r = record { position = r .position; inputs = r .inputs; datum = en
 abbrev pub differs51 : MachineData → ℕ → Report → Bool
 differs51 m k o = ltb 0 (natAbs (entry51 (m .values) k -ℤ o .datum))
 
-abbrev pub ungeared : Stops → Rules
+abbrev pub ungeared : Cause13 → Rules
 ungeared stops =
     record {
       read = read51;
@@ -86,7 +86,7 @@ ungeared stops =
 -- ---- before W2
 
 -- "at 0, with F on, stands cause 13, rank 4, in every case"
-abbrev pub inEveryCase : Stops
+abbrev pub inEveryCase : Cause13
 inEveryCase d effective f = expired f
 
 -- ---- the rules that have been

@@ -60,7 +60,7 @@ module _ (d : List ℤ) (f : Fault) (off : f .on ≡ false) where
   unfolding faultNext
   fault-new = rw off
 
-  -- "at 0, with F on, stands cause 13": in the cycle that sets F exactly where datum 34 is 0
+  -- "at 0, with F on": in the cycle that sets F exactly where datum 34 is 0
   pub expired-new : expired (faultNext d true f) ≡ eqb (numberOf d 34) 0
   unfolding faultNext expired
   expired-new = rw off
@@ -68,7 +68,7 @@ module _ (d : List ℤ) (f : Fault) (off : f .on ≡ false) where
   pub expired-at-once : numberOf d 34 ≡ 0 → expired (faultNext d true f) ≡ true
   expired-at-once e = expired-new ∙ eq-eqb (numberOf d 34) 0 e
 
-  -- cause 13 does not stand without F
+  -- without F no time is over
   pub expired-not : expired f ≡ false
   unfolding expired
   expired-not = rw off

@@ -9,7 +9,7 @@ use machine_data::Values;
 use machine_data::numbers;
 use report::Report;
 
-// F, and the cycles left to cause 13.
+// F, and the cycles left of its time.
 pub struct Fault {
     pub on: bool,
     pub left: u32,

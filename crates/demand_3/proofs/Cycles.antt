@@ -13,6 +13,7 @@ use lib.IntN.{ℤ}
 use Rattle.machine_data.specs.declared.MachineData.{MachineData}
 use Rattle.machine_data.specs.Data.{numberOf}
 use Rattle.inputs.specs.Usable.{usableOf}
+use Rattle.selection.proofs.Effective.{effective-one-of}
 use Rattle.rank.specs.declared.Rank.{Rank}
 use Rattle.rank.specs.declared.Rank.the-variants.{None, A}
 use Rattle.rank.specs.Rank.{rankNumber}
@@ -34,7 +35,7 @@ use Rattle.demand_2.proofs.Demand2.{no-weaker, cause-met}
 use Rattle.demand_3.proofs.Stops.{Grown, grown, off-grown, Counting, WellFormed, counting, formed}
 use Rattle.demand_3.proofs.OfCauses.{no-stronger, makes-fresh}
 use Rattle.demand_3.proofs.OfComparison.{brightness, Lit, lit, expires}
-use Rattle.demand_3.proofs.OfSelection.{selected-number, effective-one-of, delay-next}
+use Rattle.demand_3.proofs.OfSelection.{selected-number, delay-next}
 
 -- what every state has before a cycle, with the list in force in it
 pub record Ready (m : MachineData) (s : State) : Type 0 where
@@ -163,7 +164,7 @@ module _ (m : MachineData) (s : State) (g : Given) where
             left = left (clearsIn m s g);
             expired = simp u at (ended u (clearsIn m s g) refl);
             delay = delay-next d (s .kept .choice) _ _ (q .delay);
-            numbered = effective-one-of (λ x. sgLessOne x < 4) d (s .kept .choice) _ _ (selected-number d (g .reading .inputs)) (q .numbered);
+            numbered = effective-one-of (λ x. sgLessOne x < 4) d (s .kept .choice) _ _ (selected-number d (g .reading .inputs)) (λ _. q .numbered);
           })
       go false u =
           simp u

@@ -15,3 +15,4 @@ pub mod Logs
 pub mod Calls
 pub mod Answered
 pub mod Demand3
+pub mod ShownOnly

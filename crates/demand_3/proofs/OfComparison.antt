@@ -1,4 +1,4 @@
--- Laws of F: a cause that sets it lights it, each later usable cycle takes it a step nearer to its end, and at its end cause 13 stands. By its
+-- Laws of F: a cause that sets it lights it, each later usable cycle takes it a step nearer to its end, and at its end its time is over. By its
 -- brightness, one number for F and its count. Assumes nothing.
 use Prim.Native.Nat.{ℕ, suc, _+_, _-_, _≤_, _<_}
 use mathlib.Core.Bool.{Bool, true, false, cond, _&&_}

@@ -30,15 +30,6 @@ selected-number d w = go (not (functionOf d 0) || bitOf w 0) (not (bitOf w 1))
     go false false = omega arith
 
 -- what the present and the effective selection have in common, the next effective one has
-pub effective-one-of : (P : Selection → Type 0) (d : List ℤ) (x : Choice) (s : Selection) (p : ℤ) → P s → P (x .effective) → P (choiceNext d x s p .effective)
-unfolding choiceNext
-effective-one-of P d x s p a b =
-    if-case (λ (y : Choice). P (y .effective)) (x .chosen && stricter d s (x .effective)) _ _ (λ _. waits (delayCount d (x .left))) (λ _. a)
-  where
-    waits : (n : ℕ) → P (waitedOf x s p n .effective)
-    waits zero = a
-    waits (suc n) = b
-
 -- ---- the count within its datum, or 1 where that is 0
 
 -- the count of a lowering that goes on

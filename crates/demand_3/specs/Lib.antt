@@ -2,3 +2,4 @@ pub mod Calls
 pub mod History
 pub mod Claims
 pub mod Demand3
+pub mod ShownOnly

@@ -37,7 +37,7 @@ stateFrom w =
                 };
             -- word 10, the usable cycles running in which the input words differ
             differing = getD w 10 0;
-            -- word 11, F, and word 12, the cycles left to cause 13
+            -- word 11, F, and word 12, the cycles left of its time
             fault = record { on = yesFrom (getD w 11 0); left = getD w 12 0 };
           };
       -- words 13 to 15

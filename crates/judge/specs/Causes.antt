@@ -58,7 +58,7 @@ anyDiffers o = o .position || o .inputs || o .datum
 unfoldable pub faultIn : MachineData → State → Given → Fault
 faultIn m s g = faultNext (m .values) (anyDiffers (differencesIn m s g)) (s .kept .fault)
 
--- whether cause 13 stands: by F and by the effective selection, both as this cycle leaves them
+-- whether cause 13 stands: by F as this cycle's differences leave it, and by the selection that its step 3 leaves effective
 abbrev pub stopsIn : MachineData → State → Given → Bool
 stopsIn m s g = faultStops (m .values) (choiceIn m s g .effective) (faultIn m s g)
 

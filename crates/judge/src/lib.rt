@@ -154,7 +154,7 @@ pub fn judge(values: &Values, count: usize, state: State, given: Given) -> Findi
         datum: report::datum_differs(values, count, state.k, report),
     };
     let after = fault.next(values, differs.any());
-    let bound = choice.effective;
+    let effective = choice.effective;
     let rows = rows(
         values,
         stop,
@@ -162,7 +162,7 @@ pub fn judge(values: &Values, count: usize, state: State, given: Given) -> Findi
         choice,
         step,
         differs,
-        active::fault_stops(values, bound, after),
+        active::fault_stops(values, effective, after),
     );
     Findings {
         step,

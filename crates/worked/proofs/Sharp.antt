@@ -5,7 +5,7 @@ use Rattle.channel.specs.Cycle.{freshChannel}
 use Rattle.demand_3.specs.Calls.{Answers}
 use Rattle.demand_3.specs.Claims
 use Rattle.demand_3.proofs.Answered.{answered}
-use Rattle.worked.specs.Sharp.{list, nxAlone, moving, leaving, differing, idling, lowering, calls, words, Sharp}
+use Rattle.worked.specs.Sharp.{list, nxAlone, moving, leaving, differing, deselected, lowering, calls, words, Sharp}
 use Rattle.worked.proofs.Computing.{the-cycle, the-calls}
 
 -- the words that the calls give
@@ -14,7 +14,7 @@ unfolding the-calls list moving calls
 given = refl
 
 pub sharp : Sharp
-unfolding the-cycle Claims.causeOf Claims.usableBefore list nxAlone moving leaving differing idling lowering
+unfolding the-cycle Claims.causeOf Claims.usableBefore list nxAlone moving leaving differing deselected lowering
 sharp =
     record {
       overstepped-1 = (refl, refl);
@@ -31,9 +31,9 @@ sharp =
       off-in-5 = (refl, refl);
       shown-1 = refl;
       shown-in-5 = (refl, refl);
-      turning-in-5 = refl;
+      no-stop-in-5 = refl;
       active-1 = (refl, refl);
-      idle-in-7 = (refl, refl, refl);
+      inactive-in-7 = (refl, refl, refl);
       active-in-8 = (refl, refl, refl);
       selected-1 = (refl, refl);
       bound-in-3 = (refl, refl);

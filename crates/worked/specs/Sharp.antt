@@ -88,8 +88,8 @@ unfoldable pub differing : List CycleRecord
 differing = differingThen 2
 
 -- nothing is selected from cycle 2 on, and SG1 again from 6 on
-unfoldable pub idling : List CycleRecord
-idling = differingThen 1 ++ replicate 3 (alike (pos 0) 2)
+unfoldable pub deselected : List CycleRecord
+deselected = differingThen 1 ++ replicate 3 (alike (pos 0) 2)
 
 -- nothing is selected, and from cycle 1 on SBH
 unfoldable pub lowering : List CycleRecord
@@ -132,11 +132,11 @@ pub record Sharp : Type 0 where
   -- W2: with n<nx alone F stands in 5, its count at 0, and no stop with it
   pub shown-1 : causeIn nxAlone differing 1 10 .stands ≡ true
   pub shown-in-5 : (fault nxAlone differing 5 ≡ record { on = true; left = 0 }) × (causeIn nxAlone differing 5 13 .stands ≡ false)
-  pub turning-in-5 : rankInDevice (device nxAlone differing 5) ≡ 0
+  pub no-stop-in-5 : rankInDevice (device nxAlone differing 5) ≡ 0
   -- W2: active in 1 alone is not enough; selected in 6 again, SG1 becomes effective in 8, and cause 13 stands in that very cycle
-  pub active-1 : (causeIn list idling 1 10 .stands ≡ true) × (effective list idling 1 ≡ Sg 0 0)
-  pub idle-in-7 : (fault list idling 7 ≡ record { on = true; left = 0 }) × (effective list idling 7 ≡ Nothing) × (rankInDevice (device list idling 7) ≡ 0)
-  pub active-in-8 : (effective list idling 8 ≡ Sg 0 0) × (causeIn list idling 8 13 .stands ≡ true) × (rankInDevice (device list idling 8) ≡ 4)
+  pub active-1 : (causeIn list deselected 1 10 .stands ≡ true) × (effective list deselected 1 ≡ Sg 0 0)
+  pub inactive-in-7 : (fault list deselected 7 ≡ record { on = true; left = 0 }) × (effective list deselected 7 ≡ Nothing) × (rankInDevice (device list deselected 7) ≡ 0)
+  pub active-in-8 : (effective list deselected 8 ≡ Sg 0 0) × (causeIn list deselected 8 13 .stands ≡ true) × (rankInDevice (device list deselected 8) ≡ 4)
   -- the delay is 2: SBH, selected in 1 and 2, is not yet effective in 2
   pub selected-1 : (numberOf (list .values) 27 ≡ 2) × (Claims.window (λ i. list) (cs list lowering) 3 2 ≡ 3 ∷ 2 ∷ 1 ∷ [])
   pub bound-in-3 : (effective list lowering 2 ≡ Nothing) × (effective list lowering 3 ≡ Sbh)

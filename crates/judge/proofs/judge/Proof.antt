@@ -1,9 +1,15 @@
 -- `judge::judge` meets its contract. Assumes nothing.
 use mathlib.Core.Path.{_≡_, ap, _∙_}
+use mathlib.Core.Bool.{Bool}
 use denote.Ref.{now}
 use Rattle.machine_data.specs.Data.{lent}
 use Rattle.causes.specs.Causes.{summaryOf}
-use Rattle.judge.specs.Causes.{stepIn, choiceIn, differingIn, differencesIn, faultIn, usableRows}
+use Rattle.selection.specs.declared.Selection.{Selection}
+use Rattle.selection.specs.Selection.{choiceNext}
+use Rattle.comparison.specs.Comparison.{inputsDiffer, faultNext}
+use Rattle.active.specs.Active.{faultStops}
+use Rattle.judge.specs.declared.Differences.{Differences}
+use Rattle.judge.specs.Causes.{stepIn, choiceIn, differingIn, differencesIn, anyDiffers, faultIn, stopsIn, table, usableRows}
 use borrow.Author.Needs.{needs}
 use Rattle.judge.proofs.judge.Statement.{statement}
 use Rattle.judge.proofs.judge.Tie as tie
@@ -44,16 +50,27 @@ rows-requires c κs = search needs
 of-requires : tie.Need-of-requires
 of-requires c κs = search needs
 
+abbrev differences : Bool → Bool → Bool → Differences
+differences position inputs datum = record { position = position; inputs = inputs; datum = datum }
+
+-- each part is the definition's of the parts before it
 returns : tie.Need-returns
 unfolding choiceIn differingIn differencesIn faultIn usableRows
 returns c =
     let a = c .before .before .before .before .before .before .before .before .before .before .before .before .before .before .before .before .before .args in
-    let m = lent (now (a .values)) (a .count) in
-    let step : c .before .before .before .before .before .before .before .before .before .before .before .step-of .result ≡ stepIn m (a .state) (a .given) = c .before .before .before .before .before .before .before .before .before .before .before .step-of .ensures in
-    let choice : c .before .before .before .before .before .before .before .before .before .next .result ≡ choiceIn m (a .state) (a .given) = simp (c .before .before .before .before .before .before .before .before .before .next .ensures, c .before .before .before .before .before .before .before .before .before .before .selected .ensures) in
-    let differing : c .before .before .before .before .before .before .before .before .run .result ≡ differingIn (a .state) (a .given) = simp (c .before .before .before .before .before .before .before .before .run .ensures) in
-    let fault : c .before .before .before .next2 .result ≡ faultIn m (a .state) (a .given) = simp (c .before .before .before .next2 .ensures, c .before .before .before .before .any .ensures, c .before .before .before .before .before .datum-differs .ensures, c .before .before .before .before .before .before .inputs-differ .ensures, c .before .before .before .before .before .before .before .position-differs .ensures, c .before .before .before .before .before .before .before .before .run .ensures) in
-    let rows : c .before .rows .result ≡ usableRows m (a .state) (a .given) = simp (c .before .rows .ensures, c .before .before .fault-stops .ensures, c .before .before .before .next2 .ensures, c .before .before .before .before .any .ensures, c .before .before .before .before .before .datum-differs .ensures, c .before .before .before .before .before .before .inputs-differ .ensures, c .before .before .before .before .before .before .before .position-differs .ensures, c .before .before .before .before .before .before .before .before .run .ensures, c .before .before .before .before .before .before .before .before .before .next .ensures, c .before .before .before .before .before .before .before .before .before .before .selected .ensures, c .before .before .before .before .before .before .before .before .before .before .before .step-of .ensures) in
+    let d = now (a .values) in
+    let m = lent d (a .count) in
+    let s = a .state in
+    let g = a .given in
+    let step : c .before .before .before .before .before .before .before .before .before .before .before .step-of .result ≡ stepIn m s g = c .before .before .before .before .before .before .before .before .before .before .before .step-of .ensures in
+    let choice : c .before .before .before .before .before .before .before .before .before .next .result ≡ choiceIn m s g = c .before .before .before .before .before .before .before .before .before .next .ensures ∙ ap (λ (x : Selection). choiceNext d (s .kept .choice) x (g .reading .position)) (c .before .before .before .before .before .before .before .before .before .before .selected .ensures) in
+    let differing : c .before .before .before .before .before .before .before .before .run .result ≡ differingIn s g = c .before .before .before .before .before .before .before .before .run .ensures in
+    let inputs : c .before .before .before .before .before .before .inputs-differ .result ≡ inputsDiffer d (differingIn s g) = c .before .before .before .before .before .before .inputs-differ .ensures ∙ ap (inputsDiffer d) differing in
+    let differs : differences (c .before .before .before .before .before .before .before .position-differs .result) (c .before .before .before .before .before .before .inputs-differ .result) (c .before .before .before .before .before .datum-differs .result) ≡ differencesIn m s g =
+    λ i. differences (c .before .before .before .before .before .before .before .position-differs .ensures i) (inputs i) (c .before .before .before .before .before .datum-differs .ensures i) in
+    let fault : c .before .before .before .next2 .result ≡ faultIn m s g = c .before .before .before .next2 .ensures ∙ ap (λ (b : Bool). faultNext d b (s .kept .fault)) (c .before .before .before .before .any .ensures ∙ ap anyDiffers differs) in
+    let stops : c .before .before .fault-stops .result ≡ stopsIn m s g = c .before .before .fault-stops .ensures ∙ (λ i. faultStops d (choice i .effective) (fault i)) in
+    let rows : c .before .rows .result ≡ usableRows m s g = c .before .rows .ensures ∙ (λ i. table d (s .stop) (g .reading) (choice i) (step i) (differs i) (stops i)) in
     λ i. record { step = step i; choice = choice i; differing = differing i; fault = fault i; rows = rows i; summary = (c .of .ensures ∙ ap summaryOf rows) i }
 
 pub judge-spec : {M : Type 1} → statement M

@@ -230,7 +230,8 @@ impl Channel {
         let reference = paper!(r, position, SbhReferenceIsReport => report.position);
         paper!(r, (),
             OrderScaled => self.selections.ratio = ratio,
-            RatioWaits => self.selections.ratio = ratio);
+            RatioWaits => self.selections.ratio = ratio,
+            ActiveNeedsPrevious => self.selections.has_previous = self.previous.is_some());
         // Of deviations only.
         let was_active = paper!(r, true, FCountAnewActive => self.active(r));
         self.selections

@@ -7,8 +7,8 @@
 //! wrong boards in `tests/scripts.rs`):
 //! - F's count, the stop's count or the hold's reference changed in an unusable cycle: the rank
 //!   is 5 from there until a cycle clears, and that puts all of them off;
-//! - whether cause 13 stands in a cycle after one in which it stood: the rank is 4 or 5 until a
-//!   cycle clears, and that puts F off;
+//! - whether cause 13 stands in a cycle after one in which it stood, or behind an unusable one:
+//!   the rank is 4 or 5 until a cycle clears, and that puts F off;
 //! - cam signals left as they are while their function is off: a list never changes;
 //! - |d| × 60 divided by T before it is compared with nx or the shutdown speed: for whole n,
 //!   a quotient rounded down is below n just where the quotient is;
@@ -441,10 +441,11 @@ deviations! {
     HeadWithoutF: "cause 12 does not set F where heads alone differ", "W1: The report carries the head too, and cause 12 also stands where heads differ.";
     OtherUnusableLeftOut: "causes 10 and 11 leave out an unusable report", "10 position differs from the report (the other's unusable report: compared as it is)";
     FTimeSetAnew: "each of 10, 11, 12 sets the count from F to B anew", "10, 11, 12 set F and, if F is new, its count to datum 34";
+    FTimeSetAnewAt0: "a difference sets F's count anew once it is 0", "10, 11, 12 set F and, if F is new, its count to datum 34";
     FTimeOneMore: "the time from F to B is one cycle longer", "its count to datum 34; the count falls in later usable cycles";
     FTimeOneLess: "the time from F to B is one cycle shorter", "its count to datum 34; the count falls in later usable cycles";
     FTimeZeroNextCycle: "with datum 34 at 0 cause 13 stands in the next cycle", "at 0, with F on, stands cause 13 (datum 34 at 0: in the same cycle)";
-    FWithoutB: "F never leads to STOP B", "at 0, with F on, stands cause 13, rank 4, in every case";
+    FWithoutB: "F never leads to STOP B", "at 0, with F on, stands cause 13, rank 4";
     FNotSetInactive: "F is not set while nothing is active", "W2: F is shown, and STOP B follows only if SBH, SG, SE or cams are active.";
     FOffWhenOver: "F goes off where its count is 0 and nothing is active", "W2: F is shown, and STOP B follows only if SBH, SG, SE or cams are active.";
     FCountWaitsInactive: "F's count does not fall while nothing is active", "W2: F's count runs on meanwhile.";
@@ -456,19 +457,28 @@ deviations! {
     ActiveWithoutSbh: "SBH does not count as active", "W2: in cycles where SBH or SG is effective";
     ActiveWithoutSg: "an SG does not count as active", "W2: in cycles where SBH or SG is effective";
     ActiveWithoutSg1: "SG1, whose number less one is 0, does not count as active", "W2: in cycles where SBH or SG is effective";
+    ActiveNeedsPrevious: "SBH and SG count as active only where there is a previous position", "W2: in cycles where SBH or SG is effective";
+    ActiveSelectionOf51: "SBH and SG count as active only in a list of 51 data", "W2: in cycles where SBH or SG is effective";
+    ActiveSelectionNotBesideNx: "SBH and SG do not count as active while n<nx is on", "W2: in cycles where SBH or SG is effective";
+    ActiveSelectionNotBesideStops: "SBH and SG do not count as active while the external stops are on", "W2: in cycles where SBH or SG is effective";
     ActiveWithoutSe: "SE does not count as active", "W2: or SE or cams are enabled";
     ActiveSe2Only: "SE counts as active only while SE2 is chosen", "W2: or SE or cams are enabled";
     ActiveSeOutside: "SE counts as active only where the position is outside", "W2: or SE or cams are enabled";
+    ActiveSeNotBesideNx: "SE does not count as active while n<nx is on", "W2: or SE or cams are enabled";
+    ActiveSeNotBesideStops: "SE does not count as active while the external stops are on", "W2: or SE or cams are enabled";
     ActiveWithoutCams: "the cams do not count as active", "W2: or SE or cams are enabled";
     ActiveCamsAbove: "the cams count as active only above one of them", "W2: or SE or cams are enabled";
+    ActiveCamsBelow: "the cams count as active only above none of them", "W2: or SE or cams are enabled";
+    ActiveCamsNotBesideNx: "the cams do not count as active while n<nx is on", "W2: or SE or cams are enabled";
+    ActiveCamsNotBesideStops: "the cams do not count as active while the external stops are on", "W2: or SE or cams are enabled";
     ActiveByNx: "n<nx counts as active", "W2: A grinding shop enables n<nx alone";
     ActiveByExternalStops: "the external stops count as active", "W2: From now on cause 13 stands only in cycles where SBH or SG is effective, or SE or cams are enabled.";
     ActiveByStop: "a standing stop counts as active", "W2: From now on cause 13 stands only in cycles where SBH or SG is effective, or SE or cams are enabled.";
     ActiveInEither: "what is active in the other channel counts too", "W2: From now on cause 13 stands only in cycles where SBH or SG is effective, or SE or cams are enabled. (in this channel)";
     ActiveByReport: "cause 13 goes by what the report's input word selects", "W2: in cycles where SBH or SG is effective";
     Cause13Once: "cause 13 stands only in the first cycle where F's count is 0", "W2: From now on cause 13 stands only in cycles where SBH or SG is effective, or SE or cams are enabled. (in each of them)";
-    Cause13OnlyAlone: "cause 13 stands only where no other cause does", "at 0, with F on, stands cause 13, rank 4, in every case";
-    Cause13OnlyWithoutF: "cause 13 stands only where none of 10, 11, 12 does", "at 0, with F on, stands cause 13, rank 4, in every case";
+    Cause13OnlyAlone: "cause 13 stands only where no other cause does", "at 0, with F on, stands cause 13, rank 4 (beside other causes too)";
+    Cause13OnlyWithoutF: "cause 13 stands only where none of 10, 11, 12 does", "at 0, with F on, stands cause 13, rank 4 (beside other causes too)";
     Cause13RankA: "cause 13 has rank 5", "stands cause 13, rank 4";
     Cause13RankC: "cause 13 has rank 3", "stands cause 13, rank 4";
     Cause2NotFresh: "cause 2 is not fresh", "All but 13 are fresh.";

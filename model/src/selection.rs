@@ -116,8 +116,8 @@ pub struct Selections {
     /// "its reference is the position, kept while SBH is effective"
     pub reference: i32,
     /// Of deviations only: the selection that waits, and the position of its choice; the present
-    /// ratio, and that of the effective selection; what was effective in the cycle before, and
-    /// whether something is active in the other channel.
+    /// ratio, and that of the effective selection; what was effective in the cycle before,
+    /// whether something is active in the other channel, and whether there is a previous position.
     waiting: Selection,
     chosen_at: i32,
     referenced: bool,
@@ -125,6 +125,7 @@ pub struct Selections {
     pub bound_by: Ratio,
     pub before: Selection,
     pub other_active: bool,
+    pub has_previous: bool,
 }
 
 impl Selections {
@@ -141,6 +142,7 @@ impl Selections {
         bound_by: Ratio::ONE,
         before: Selection::Nothing,
         other_active: false,
+        has_previous: false,
     };
 
     /// "counts, runs, F, selections, references and cams stay"

@@ -307,6 +307,8 @@ fn by_what_is_active<const N: u32>(channel: &mut Lent, old: &[u32], cycle: &mut 
         },
         // Under STOP A F's count waits while nothing is active.
         52 if cancelled && !active => set(channel, word::F_COUNT, old[word::F_COUNT]),
+        // SBH and SG count only where there is a previous position.
+        53 if !by_function && old[word::HAS_PREVIOUS] == 0 => leave_code_out(cycle, 13),
         _ => (),
     }
 }
@@ -355,7 +357,7 @@ fn untold(scripts: &[Script]) -> Vec<u32> {
         ($($n:literal)*) => { [$(($n, told::<Wrong<$n>>(scripts).len())),*] };
     }
     let told = of!(0 1 2 3 4 5 6 7 8 9 10 11 12 13 14 15 16 17 18 19 20 21 22 23 24 25 26 27 28 29
-        30 31 32 33 34 35 36 37 38 39 40 41 42 43 44 45 46 47 48 49 50 51 52);
+        30 31 32 33 34 35 36 37 38 39 40 41 42 43 44 45 46 47 48 49 50 51 52 53);
     assert_eq!(told[0], (0, 0));
     let untold = told[1..].iter().filter(|(_, scripts)| *scripts == 0);
     untold.map(|(board, _)| *board).collect()

@@ -29,7 +29,7 @@
 -- nothing else. From n + t on, until one after n clears, is: in every m with n + t ≤ m, if no cycle after n and up to m clears. A datum is read by
 -- `numberOf`, in an accepted list as it stands there (machine_data/proofs/Stands.antt). `binds` takes "X or stricter" as equal to X or stricter by the order
 -- of step 3, `binds-by-order` as not laxer than X: two SG of equal limit × percent are neither stricter. `differing-off` asks that one of SBH, SG, SE and
--- cams is active in every usable cycle from n up to m; `ended-at-once` and `ended-off`, which imply it, ask it of one cycle.
+-- cams is active in every usable cycle from n up to m; `ended-off`, which implies it, and `ended-at-once` ask it of one cycle.
 use Prim.Native.Nat.{ℕ}
 use mathlib.Core.List.{List}
 use mathlib.Core.Path.{_≡_}

@@ -1,4 +1,4 @@
--- What a cycle leaves, by what steps 2 to 4 found: document 01, steps 1, 5 and 6, and "Channel word".
+-- What a cycle leaves, by what steps 2 to 4 found: document 01, steps 1, 5 and 6, and "Channel word", and W3.
 use Prim.Native.Nat.{ℕ}
 use mathlib.Core.Bool.{Bool, false, not, _&&_}
 use mathlib.Core.List.{List}
@@ -13,14 +13,15 @@ use Rattle.stop.specs.Stop.{stopNext}
 use Rattle.comparison.specs.Comparison.{clearedFault}
 use Rattle.cams.specs.Cams.{camsNext}
 use Rattle.causes.specs.declared.Summary.{Summary}
-use Rattle.channel_word.specs.Word.{wordBy, belowNx}
+use Rattle.nx_signal.specs.Signal.{signalNext}
+use Rattle.channel_word.specs.Word.{wordBy}
 use Rattle.state.specs.declared.State.{State}
 use Rattle.state.specs.declared.Given.{Given}
 use Rattle.judge.specs.declared.Findings.{Findings}
 use Rattle.advance.specs.declared.Advanced.{Advanced}
 
 -- "Unusable: cause 1, rank 5, not held. The previous position is forgotten; counts, runs, F, selections, references and cams stay; steps 2 to 5 are
--- skipped"; "k .. rises by one each cycle"
+-- skipped"; W3, of n<nx: "leaves value and run as they were"; "k .. rises by one each cycle"
 abbrev pub unusableNext : ℕ → State → State
 unusableNext count s = record { k = nextK count (s .k); kept = s .kept; stop = Cancelled; previous = Absent }
 
@@ -35,6 +36,7 @@ usableNext m s g f clears strongest =
             choice = f .choice;
             differing = f .differing;
             fault = clearedFault clears (f .fault);
+            nx = signalNext (m .values) (f .step) (s .kept .nx);
           };
       stop = stopNext (m .values) clears strongest (slower (m .values) (f .step) 33) (g .reading .position) (s .stop);
       previous = At (g .reading .position);
@@ -48,14 +50,14 @@ clearsBy g x = g .acknowledged && not (x .fresh)
 abbrev pub nextBy : MachineData → State → Given → Findings → State
 nextBy m s g f = usableNext m s g f (clearsBy g (f .summary)) (f .summary .strongest)
 
--- the word of a state
+-- the word of a state, and of n<nx as the cycle shows it
 abbrev pub shownWord : List ℤ → State → Bool → ℕ
-shownWord d s slow = wordBy d (s .kept .choice .effective) (s .stop) (s .kept .fault .on) (s .kept .cams) slow
+shownWord d s nx = wordBy d (s .kept .choice .effective) (s .stop) (s .kept .fault .on) (s .kept .cams) nx
 
 -- state and word of a usable cycle
 abbrev pub advancedBy : MachineData → State → Given → Findings → Advanced
 advancedBy m s g f =
-    record { state = nextBy m s g f; word = shownWord (m .values) (nextBy m s g f) (belowNx (m .values) (f .step)) }
+    record { state = nextBy m s g f; word = shownWord (m .values) (nextBy m s g f) (nextBy m s g f .kept .nx .on) }
 
 -- of one that cannot be used; "n<nx shows 0 in an unusable cycle"
 abbrev pub advancedUnusable : MachineData → State → Advanced

@@ -38,6 +38,7 @@ fn usable(values: &Values, count: usize, state: State, given: Given, findings: F
     let choice = findings.choice;
     let fault = findings.fault;
     let summary = findings.summary;
+    let nx = kept.nx;
     let strongest = summary.strongest;
     let clears = clears(given, summary);
     let after = stop.next(values, clears, strongest, findings.step, reading);
@@ -48,6 +49,7 @@ fn usable(values: &Values, count: usize, state: State, given: Given, findings: F
             choice,
             differing: findings.differing,
             fault: fault.cleared(clears),
+            nx: nx.next(values, findings.step),
         },
         stop: after,
         previous: Previous::At(reading.position),
@@ -67,16 +69,16 @@ fn unusable(count: usize, state: State) -> State
     }
 }
 
-// The channel word of a state.
-fn word(values: &Values, state: State, slow: bool) -> u32
-    ensures { λ r. ⌜ r ≡ shownWord (now (values .entry)) state slow ⌝ }
+// The channel word of a state, and of n<nx as the cycle shows it.
+fn word(values: &Values, state: State, nx: bool) -> u32
+    ensures { λ r. ⌜ r ≡ shownWord (now (values .entry)) state nx ⌝ }
 {
     let kept = state.kept;
     let choice = kept.choice;
     let effective = choice.effective;
     let fault = kept.fault;
     let stop = state.stop;
-    channel_word::channel_word(values, effective, stop, fault.on, kept.cams, slow)
+    channel_word::channel_word(values, effective, stop, fault.on, kept.cams, nx)
 }
 
 // A cycle by what steps 2 to 4 found.
@@ -90,10 +92,11 @@ pub fn found(
     ensures { λ r. ⌜ r ≡ advancedBy (lent (now (values .entry)) count) state given findings ⌝ }
 {
     let after = usable(values, count, state, given, findings);
-    let below_nx = channel_word::below_nx(values, findings.step);
+    let kept = after.kept;
+    let nx = kept.nx;
     Advanced {
         state: after,
-        word: word(values, after, below_nx),
+        word: word(values, after, nx.on),
     }
 }
 

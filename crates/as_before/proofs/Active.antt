@@ -1,5 +1,5 @@
 -- W2: where one of SBH, SG, SE and cams is active whenever F's time is over in a usable cycle, the causes, the state, the word, a log's run and a kit's
--- listing are as they were. Assumes nothing.
+-- listing are as they were, whatever the rule of n<nx. Assumes nothing.
 use Prim.Native.Nat.{ℕ}
 use mathlib.Core.Path.{_≡_, refl, sym, _∙_, subst}
 use mathlib.Core.Bool.{Bool, true, false, _&&_, _||_}
@@ -20,19 +20,19 @@ use Rattle.seven.specs.declared.CycleRecord.{CycleRecord}
 use Rattle.state.specs.declared.State.{State}
 use Rattle.state.specs.declared.Given.{Given}
 use Rattle.judge.specs.Causes.{choiceIn, differencesIn, faultIn, rowsOf}
+use Rattle.list.specs.Reading.{readList}
 use Rattle.channel.specs.declared.Channel.{Channel}
 use Rattle.channel.specs.Cycle.{next}
 use Rattle.channel.specs.Word.{word}
 use Rattle.log.specs.Run.{Both, givenA, givenB, deviceCycle, bothOf, running}
 use Rattle.kit_bytes.specs.KitBytes.{wordsOf}
 use Rattle.listing.specs.Listing.{listed}
-use Rattle.as_before.specs.Rules.{now, beforeW2, document01, inEveryCase}
+use Rattle.as_before.specs.Rules.{Nx, geared, inEveryCase, steadied, now, withoutW2}
 use Rattle.as_before.specs.Cycle.{rowsUnder, nextUnder, wordUnder}
 use Rattle.as_before.specs.Runs.{runningUnder, listedUnder}
-use Rattle.as_before.specs.Kept.{Headed51, UngearedKit, Enabled, ActiveAtEnd, ActiveAtEnds, ActiveKit, Selects, SelectsAlong, EffectiveIfChosen}
+use Rattle.as_before.specs.Kept.{Enabled, ActiveAtEnd, ActiveAtEnds, ActiveKit, Selects, SelectsAlong, EffectiveIfChosen}
 use Rattle.as_before.proofs.Cycle.{Agree, rows-same, next-same, word-same, rows-now, next-now, word-now}
 use Rattle.as_before.proofs.Runs.{AgreeAlong, running-same, listed-same, both-now, running-now, listed-now}
-use Rattle.as_before.proofs.Headed51.{running-ungeared, listed-ungeared}
 
 -- ---- what is active
 
@@ -72,38 +72,39 @@ stops-active d effective f = go (expired f) (active d effective)
     go false b h = refl
 
 module _ (m : MachineData) (s : State) (g : Given) (a : ActiveAtEnd m s g) where
-  agree-active : Agree now beforeW2 m s g
+  agree-active : (nx : Nx) → Agree (geared readList faultStops nx) (geared readList inEveryCase nx) m s g
   unfolding faultIn differencesIn
-  agree-active =
+  agree-active nx =
       record {
         usable = refl;
         ratio = refl;
         rise = refl;
         differs = refl;
         stops = λ u. stops-active (m .values) (choiceIn m s g .effective) (faultIn m s g) (a (subst T (sym u) tt));
+        nx = λ u. refl;
       }
 
   -- the causes, the state after the cycle and its word
-  pub rows-active : rowsOf m s g ≡ rowsUnder beforeW2 m s g
-  rows-active = rows-now m s g ∙ rows-same now beforeW2 m s g agree-active
+  pub rows-active : rowsOf m s g ≡ rowsUnder withoutW2 m s g
+  rows-active = rows-now m s g ∙ rows-same now withoutW2 m s g (agree-active steadied)
 
-  pub next-active : next m s g ≡ nextUnder beforeW2 m s g
-  next-active = next-now m s g ∙ next-same now beforeW2 m s g agree-active
+  pub next-active : next m s g ≡ nextUnder withoutW2 m s g
+  next-active = next-now m s g ∙ next-same now withoutW2 m s g (agree-active steadied)
 
-  pub word-active : word m s g ≡ wordUnder beforeW2 m s g
-  word-active = word-now m s g ∙ word-same now beforeW2 m s g agree-active
+  pub word-active : word m s g ≡ wordUnder withoutW2 m s g
+  word-active = word-now m s g ∙ word-same now withoutW2 m s g (agree-active steadied)
 
 module _ (da db : MachineData) where
-  along-active : (x : Both) (rs : List CycleRecord) → ActiveAtEnds da db x rs → AgreeAlong now beforeW2 da db x rs
-  along-active x [] h = tt
-  along-active x (r ∷ rs) h = (
+  along-active : (nx : Nx) (x : Both) (rs : List CycleRecord) → ActiveAtEnds da db x rs → AgreeAlong (geared readList faultStops nx) (geared readList inEveryCase nx) da db x rs
+  along-active nx x [] h = tt
+  along-active nx x (r ∷ rs) h = (
     record {
       report-a = refl;
       report-b = refl;
-      a = agree-active da (x .a) (givenA da db x r) (h .0);
-      b = agree-active db (x .b) (givenB da db x r) (h .1);
+      a = agree-active da (x .a) (givenA da db x r) (h .0) nx;
+      b = agree-active db (x .b) (givenB da db x r) (h .1) nx;
     },
-    subst (λ (y : Both). AgreeAlong now beforeW2 da db y rs) (both-now da db x r) (along-active (deviceCycle da db x r .both) rs (h .2)),
+    subst (λ (y : Both). AgreeAlong (geared readList faultStops nx) (geared readList inEveryCase nx) da db y rs) (both-now da db x r) (along-active nx (deviceCycle da db x r .both) rs (h .2)),
   )
 
   -- where SE or cams are enabled in both lists, any run
@@ -124,22 +125,23 @@ module _ (da db : MachineData) where
         selecting-along (deviceCycle da db x r .both) (effective-next da (x .a) ga (h .0) a) (effective-next db (x .b) gb (h .1) b) rs (h .2),
       )
 
+module _ (nx : Nx) where
+  pub running-in-every-case : (a b : Channel) (out : List ℕ) (rs : List CycleRecord) → ActiveAtEnds (a .list) (b .list) (bothOf a b) rs →
+      runningUnder (geared readList faultStops nx) a b out rs ≡ runningUnder (geared readList inEveryCase nx) a b out rs
+  running-in-every-case a b out rs h =
+      running-same (geared readList faultStops nx) (geared readList inEveryCase nx) a b out rs (along-active (a .list) (b .list) nx (bothOf a b) rs h)
+
+  pub listed-in-every-case : (bytes : List ℕ) → ActiveKit (wordsOf bytes) →
+      listedUnder (geared readList faultStops nx) bytes ≡ listedUnder (geared readList inEveryCase nx) bytes
+  listed-in-every-case bytes h =
+      listed-same (geared readList faultStops nx) (geared readList inEveryCase nx) bytes
+      (record { read-a = refl; read-b = λ n e. refl; along = λ n m ea eb rs e. along-active _ _ nx _ rs (h n m ea eb rs e) })
+
 -- what an accepted log leaves: both channels and the whole output
 pub running-active : (a b : Channel) (out : List ℕ) (rs : List CycleRecord) → ActiveAtEnds (a .list) (b .list) (bothOf a b) rs →
-    running a b out rs ≡ runningUnder beforeW2 a b out rs
-running-active a b out rs h = running-now a b out rs ∙ running-same now beforeW2 a b out rs (along-active (a .list) (b .list) (bothOf a b) rs h)
+    running a b out rs ≡ runningUnder withoutW2 a b out rs
+running-active a b out rs h = running-now a b out rs ∙ running-in-every-case steadied a b out rs h
 
 -- a kit's listing
-pub listed-active : (bytes : List ℕ) → ActiveKit (wordsOf bytes) → listed bytes ≡ listedUnder beforeW2 bytes
-listed-active bytes h =
-    listed-now bytes
-    ∙ listed-same now beforeW2 bytes (record { read-a = refl; read-b = λ n e. refl; along = λ n m ea eb rs e. along-active _ _ _ rs (h n m ea eb rs e) })
-
--- ---- with lists headed 51 besides, all is as document 01 has it
-
-pub running-01 : (a b : Channel) → Headed51 (a .list) → Headed51 (b .list) → (out : List ℕ) (rs : List CycleRecord) →
-    ActiveAtEnds (a .list) (b .list) (bothOf a b) rs → running a b out rs ≡ runningUnder document01 a b out rs
-running-01 a b ha hb out rs h = running-active a b out rs h ∙ running-ungeared inEveryCase a b ha hb out rs
-
-pub listed-01 : (bytes : List ℕ) → UngearedKit (wordsOf bytes) → ActiveKit (wordsOf bytes) → listed bytes ≡ listedUnder document01 bytes
-listed-01 bytes kit h = listed-active bytes h ∙ listed-ungeared inEveryCase bytes kit
+pub listed-active : (bytes : List ℕ) → ActiveKit (wordsOf bytes) → listed bytes ≡ listedUnder withoutW2 bytes
+listed-active bytes h = listed-now bytes ∙ listed-in-every-case steadied bytes h

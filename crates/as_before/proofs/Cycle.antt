@@ -4,9 +4,10 @@ use mathlib.Core.Bool.{Bool, true, false, not, cond, _&&_, true≢false}
 use Rattle.machine_data.specs.declared.MachineData.{MachineData}
 use Rattle.stop.specs.declared.Stop.the-variants.{Cancelled}
 use Rattle.distance.specs.declared.Previous.the-variants.{Absent}
+use Rattle.inputs.specs.Usable.{usableOf}
+use Rattle.speed.specs.declared.Step.{Step}
 use Rattle.comparison.specs.Comparison.{faultNext}
 use Rattle.causes.specs.Causes.{summaryOf, strongestOf, freshOf}
-use Rattle.channel_word.specs.Word.{belowNx}
 use Rattle.state.specs.declared.State.{State}
 use Rattle.state.specs.declared.Given.{Given}
 use Rattle.judge.specs.Causes.{choiceIn, differingIn, differencesIn, anyDiffers, faultIn, table, usableRows, rowsOf}
@@ -27,9 +28,14 @@ module _ (m : MachineData) (s : State) (g : Given) where
   unfolding next clearsIn strongestIn rowsOf usableRows differencesIn faultIn
   next-now = refl
 
+  -- in a usable cycle n<nx is shown as it goes on
   pub word-now : word m s g ≡ wordUnder now m s g
   unfolding word next clearsIn strongestIn rowsOf usableRows differencesIn faultIn
-  word-now = refl
+  word-now = ap (shownWord (m .values) (nextUnder now m s g)) (go (usableOf m (g .reading)) (usableNextUnder now m s g) _)
+    where
+      go : (u : Bool) (x y : State) → u && cond u x y .kept .nx .on ≡ u && x .kept .nx .on
+      go true x y = refl
+      go false x y = refl
 
 -- ---- rules that agree
 
@@ -40,14 +46,21 @@ ways true false e f h = absurd (true≢false e)
 ways false true e f h = absurd (true≢false (sym e))
 ways false false e f h = h
 
+and-ways : {x y : Bool} (a b : Bool) → a ≡ b → (a ≡ true → x ≡ y) → (a && x) ≡ (b && y)
+and-ways true true e f = f refl
+and-ways true false e f = absurd (true≢false e)
+and-ways false true e f = absurd (true≢false (sym e))
+and-ways false false e f = refl
+
 module _ (p q : Rules) (m : MachineData) (s : State) (g : Given) where
-  -- in a cycle: in what it asks of them, and in cause 13 where the cycle is usable
+  -- in a cycle: in what it asks of them, and in cause 13 and n<nx where the cycle is usable
   pub record Agree : Type 0 where
     pub usable : p .usable m (g .reading) ≡ q .usable m (g .reading)
     pub ratio : p .ratio (m .values) (g .reading .inputs) ≡ q .ratio (m .values) (g .reading .inputs)
     pub rise : p .rise (m .count) (s .k) ≡ q .rise (m .count) (s .k)
     pub differs : p .differs m (s .k) (g .report) ≡ q .differs m (s .k) (g .report)
     pub stops : p .usable m (g .reading) ≡ true → stopsUnder p m s g ≡ q .stops (m .values) (choiceIn m s g .effective) (faultUnder p m s g)
+    pub nx : p .usable m (g .reading) ≡ true → p .nx (m .values) (stepUnder p m s g) (s .kept .nx) ≡ q .nx (m .values) (stepUnder p m s g) (s .kept .nx)
 
   module _ (same : Agree) where
     step-same : stepUnder p m s g ≡ stepUnder q m s g
@@ -88,4 +101,7 @@ module _ (p q : Rules) (m : MachineData) (s : State) (g : Given) where
 
     -- its word
     pub word-same : wordUnder p m s g ≡ wordUnder q m s g
-    word-same = λ i. shownWord (m .values) (next-same i) (same .usable i && belowNx (m .values) (step-same i))
+    word-same =
+        let shown : p .usable m (g .reading) && p .nx (m .values) (stepUnder p m s g) (s .kept .nx) ≡ q .usable m (g .reading) && q .nx (m .values) (stepUnder q m s g) (s .kept .nx) =
+        and-ways (p .usable m (g .reading)) (q .usable m (g .reading)) (same .usable) (λ u. same .nx u ∙ ap (λ (x : Step). q .nx (m .values) x (s .kept .nx)) step-same) in
+        λ i. shownWord (m .values) (next-same i) (shown i)

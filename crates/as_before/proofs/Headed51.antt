@@ -1,5 +1,5 @@
--- W1: with lists headed 51 the inputs, the causes, the state, the word, a log's run and a kit's listing are as they were, whatever the rule of cause 13.
--- Assumes nothing.
+-- W1: with lists headed 51 the inputs, the causes, the state, the word, a log's run and a kit's listing are as they were, whatever the rules of cause 13 and
+-- of n<nx. Assumes nothing.
 use Prim.Native.Nat.{ℕ, suc, _+_, _*_, _%_, _/_, _≤_, _<_}
 use mathlib.Core.Path.{_≡_, refl, sym, ap, _∙_}
 use mathlib.Core.Bool.{Bool, true, false, cond, _&&_, _||_}
@@ -11,9 +11,8 @@ use lib.IntN.{ℤ, pos, natAbs, _-ℤ_}
 use lib.Dec.{T, leb, ltb, eqb}
 use Rattle.laws.proofs.Bools.{and-false}
 use Rattle.bits.specs.Bits.{fieldOf}
-use Rattle.words.specs.declared.Word.the-variants.{Head}
-use Rattle.words.specs.Words.{wordAt}
 use Rattle.words.proofs.Front.{front-reads}
+use Rattle.ranges.specs.Table.{dataCount}
 use Rattle.machine_data.specs.declared.MachineData.{MachineData}
 use Rattle.machine_data.specs.Data.{numberOf, ratioOf, hasRatios, entryOf}
 use Rattle.machine_data.proofs.Lacks.{lacks}
@@ -30,7 +29,7 @@ use Rattle.state.specs.declared.Given.{Given}
 use Rattle.seven.specs.declared.CycleRecord.{CycleRecord}
 use Rattle.judge.specs.Causes.{rowsOf}
 use Rattle.list.specs.declared.ListAnswer as A
-use Rattle.list.specs.Rules.{isHead}
+use Rattle.list.specs.Rules.{among}
 use Rattle.list.specs.IsList.{IsList, list}
 use Rattle.list.specs.Reading.{readList}
 use Rattle.list.proofs.Accepts.{accepted, whole-answer, lacking}
@@ -40,10 +39,11 @@ use Rattle.channel.specs.Word.{word}
 use Rattle.log.specs.Run.{Both, bothOf, running}
 use Rattle.kit_bytes.specs.KitBytes.{wordsOf}
 use Rattle.listing.specs.Listing.{listed}
-use Rattle.as_before.specs.Rules.{Cause13, geared, ungeared, plain, spare51, usable51, nextK51, entry51, report51, differs51}
+use Rattle.as_before.specs.Lists.{heads51}
+use Rattle.as_before.specs.Rules.{Cause13, Nx, geared, ungeared, steadied, now, withoutW1, plain, spare51, usable51, nextK51, entry51, report51, differs51}
 use Rattle.as_before.specs.Cycle.{rowsUnder, nextUnder, wordUnder}
 use Rattle.as_before.specs.Runs.{runningUnder, listedUnder}
-use Rattle.as_before.specs.Kept.{Headed51, Ungeared, UngearedKit}
+use Rattle.as_before.specs.Kept.{Headed51, Headed, HeadedKit}
 use Rattle.as_before.proofs.Lists.{read-51}
 use Rattle.as_before.proofs.Cycle.{Agree, rows-same, next-same, word-same, rows-now, next-now, word-now}
 use Rattle.as_before.proofs.Runs.{AgreeAlong, running-same, listed-same, running-now, listed-now}
@@ -57,7 +57,7 @@ module _ (d : List ℤ) (moved : ℕ) where
 
   -- "|d| × 60 < datum 33 × T", "datum 25 × T"
   pub slower-51 : (k : ℕ) → slower d (record { moved = moved; ratio = plain }) k ≡ ltb (moved * 60) (numberOf d k * numberOf d 0)
-  slower-51 k = slower-plain d moved k
+  slower-51 k = slower-plain d moved (numberOf d k)
 
 -- ---- what is read of the inputs, the list and a report
 
@@ -94,13 +94,13 @@ module _ (w : ℕ) where
 pub next-k-51 : (k : ℕ) → nextK 51 k ≡ nextK51 k
 next-k-51 k = go (ltb (suc k) 51) refl
   where
-    go : (t : Bool) → ltb (suc k) 51 ≡ t → cond (ltb (suc k) 67 && t) (suc k) 0 ≡ cond t (suc k) 0
-    go true q = simp (lt-ltb (suc k) 67 (omega (arith, ltb-true (suc k) 51 q)))
-    go false q = ap (λ (b : Bool). cond b (suc k) 0) (and-false (ltb (suc k) 67))
+    go : (t : Bool) → ltb (suc k) 51 ≡ t → cond (ltb (suc k) dataCount && t) (suc k) 0 ≡ cond t (suc k) 0
+    go true q = simp (lt-ltb (suc k) dataCount (omega (arith, ltb-true (suc k) 51 q)))
+    go false q = ap (λ (b : Bool). cond b (suc k) 0) (and-false (ltb (suc k) dataCount))
 
 module _ (m : MachineData) (h : Headed51 m) where
   lacked-51 : (k : ℕ) → 51 ≤ k → k < 67 → numberOf (m .values) k ≡ 1
-  lacked-51 k l u = lacks (m .values) k l u (h .lacks k l) ∙ simp (le-leb 51 k l, le-leb k 66 (omega (arith, u)))
+  lacked-51 k l u = lacks (m .values) k l (omega (arith, u)) (h .lacks k l) ∙ simp (le-leb 51 k l, le-leb k 66 (omega (arith, u)))
 
   -- "A list headed 51 is read with every ratio 1 to 1"
   pub ratio-51 : (g : ℕ) → ratioOf (m .values) g ≡ plain
@@ -119,8 +119,8 @@ module _ (m : MachineData) (h : Headed51 m) where
   entry-51 k = go (ltb k 51) refl
     where
       go : (t : Bool) → ltb k 51 ≡ t → entryOf (m .values) k ≡ cond t (getD (m .values) k (pos 0)) (pos 0)
-      go true q = simp (lt-ltb k 67 (omega (arith, ltb-true k 51 q)))
-      go false q = behind (ltb k 67)
+      go true q = simp (lt-ltb k dataCount (omega (arith, ltb-true k 51 q)))
+      go false q = behind (ltb k dataCount)
         where
           behind : (a : Bool) → cond a (getD (m .values) k (pos 0)) (pos 0) ≡ pos 0
           behind true = h .lacks k (omega (arith, ltb-false k 51 q))
@@ -132,29 +132,35 @@ module _ (m : MachineData) (h : Headed51 m) where
       let same : m .count ≡ o .head = h .count ∙ sym head in
       simp (eq-eqb (m .count) (o .head) same) (ap (λ (z : ℤ). ltb 0 (natAbs (z -ℤ o .datum))) (entry-51 k))
 
--- an accepted list that is not headed 67 is headed 51
-pub headed : (s : List ℕ) (n : ℕ) → Ungeared s → readList s .answer ≡ A.the-variants.Accepted n → Headed51 (readList s .list)
-headed s n plain e = of-list (accepted s (readList s .list) n .0 (whole-answer s n e) .1) (take-append-drop n s)
+-- an accepted list has one of the heads that its head is among, and 0 in the places behind its data
+pub short : (heads s : List ℕ) (n : ℕ) → Headed heads s → readList s .answer ≡ A.the-variants.Accepted n →
+    T (among (readList s .list .count) heads) × ((k : ℕ) → readList s .list .count ≤ k → getD (readList s .list .values) k (pos 0) ≡ pos 0)
+short heads s n earlier e = of-list (accepted s (readList s .list) n .0 (whole-answer s n e) .1) (take-append-drop n s)
   where
-    of-list : {d : MachineData} {ws : List ℕ} → IsList d ws → ws ++ drop n s ≡ s → Headed51 d
+    of-list : {d : MachineData} {ws : List ℕ} → IsList d ws → ws ++ drop n s ≡ s → T (among (d .count) heads) × ((k : ℕ) → d .count ≤ k → getD (d .values) k (pos 0) ≡ pos 0)
     of-list {d} (list {w} {ws = ws} word size x values a b) whole =
         let front : drop 0 s ≡ w ∷ (ws ++ drop n s) = sym whole in
-        let count : d .count ≡ 51 = one-of (front-reads s 0 w (ws ++ drop n s) front word) size in
-        record { count = count; lacks = λ k h. lacking (list word size x values a b) k (omega (arith, count, h)) }
+        (earlier (d .count) (front-reads s 0 w (ws ++ drop n s) front word) size, lacking (list word size x values a b))
+
+-- so one that has no later head is headed 51
+pub headed : (s : List ℕ) (n : ℕ) → Headed heads51 s → readList s .answer ≡ A.the-variants.Accepted n → Headed51 (readList s .list)
+headed s n earlier e =
+    let x = short heads51 s n earlier e in
+    let count = one-of (readList s .list .count) (x .0) in
+    record { count = count; lacks = λ k h. x .1 k (omega (arith, count, h)) }
+  where
+    one-of : (m : ℕ) → T (among m heads51) → m ≡ 51
+    one-of m = go (eqb m 51) refl
       where
-        one-of : wordAt s 0 ≡ Head (d .count) → T (isHead (d .count)) → d .count ≡ 51
-        one-of word = go (eqb (d .count) 51) refl (eqb (d .count) 67) refl
-          where
-            go : (t : Bool) → eqb (d .count) 51 ≡ t → (u : Bool) → eqb (d .count) 67 ≡ u → T (t || (u || false)) → d .count ≡ 51
-            go true q u r t = eqb-true (d .count) 51 q
-            go false q true r t = absurd (plain (word ∙ ap Head (eqb-true (d .count) 67 r)))
-            go false q false r t = absurd t
+        go : (t : Bool) → eqb m 51 ≡ t → T (t || false) → m ≡ 51
+        go true q t = eqb-true m 51 q
+        go false q t = absurd t
 
 -- ---- the rules agree
 
-module _ (stops : Cause13) where
+module _ (stops : Cause13) (nx : Nx) where
   module _ (m : MachineData) (h : Headed51 m) (s : State) (g : Given) (head : g .report .head ≡ 51) where
-    pub agree-51 : Agree (geared stops) (ungeared stops) m s g
+    pub agree-51 : Agree (geared readList stops nx) (ungeared stops nx) m s g
     agree-51 =
         record {
           usable = usable-51 m h (g .reading);
@@ -162,13 +168,14 @@ module _ (stops : Cause13) where
           rise = ap (λ (n : ℕ). nextK n (s .k)) (h .count) ∙ next-k-51 (s .k);
           differs = differs-51 m h (s .k) (g .report) head;
           stops = λ u. refl;
+          nx = λ u. refl;
         }
 
   report-51 : (m : MachineData) → Headed51 m → (k : ℕ) (r : Reading) → reportOf m k r ≡ report51 m k r
   report-51 m h k r = λ i. record { position = r .position; inputs = r .inputs; datum = entry-51 m h k i; head = h .count i }
 
   module _ (da db : MachineData) (ha : Headed51 da) (hb : Headed51 db) where
-    along-51 : (x : Both) (rs : List CycleRecord) → AgreeAlong (geared stops) (ungeared stops) da db x rs
+    along-51 : (x : Both) (rs : List CycleRecord) → AgreeAlong (geared readList stops nx) (ungeared stops nx) da db x rs
     along-51 x [] = tt
     along-51 x (r ∷ rs) = (
       record {
@@ -182,35 +189,35 @@ module _ (stops : Cause13) where
 
   -- what an accepted log leaves: both channels and the whole output
   pub running-ungeared : (a b : Channel) → Headed51 (a .list) → Headed51 (b .list) → (out : List ℕ) (rs : List CycleRecord) →
-      runningUnder (geared stops) a b out rs ≡ runningUnder (ungeared stops) a b out rs
-  running-ungeared a b ha hb out rs = running-same (geared stops) (ungeared stops) a b out rs (along-51 (a .list) (b .list) ha hb (bothOf a b) rs)
+      runningUnder (geared readList stops nx) a b out rs ≡ runningUnder (ungeared stops nx) a b out rs
+  running-ungeared a b ha hb out rs = running-same (geared readList stops nx) (ungeared stops nx) a b out rs (along-51 (a .list) (b .list) ha hb (bothOf a b) rs)
 
   -- a kit's listing
-  pub listed-ungeared : (bytes : List ℕ) → UngearedKit (wordsOf bytes) → listedUnder (geared stops) bytes ≡ listedUnder (ungeared stops) bytes
+  pub listed-ungeared : (bytes : List ℕ) → HeadedKit heads51 (wordsOf bytes) → listedUnder (geared readList stops nx) bytes ≡ listedUnder (ungeared stops nx) bytes
   listed-ungeared bytes kit =
       let words = wordsOf bytes in
-      listed-same (geared stops) (ungeared stops) bytes
+      listed-same (geared readList stops nx) (ungeared stops nx) bytes
       (record {
         read-a = read-51 words (kit .list-a);
         read-b = λ n ea. read-51 (drop n words) (kit .list-b n ea);
         along = λ n m ea eb rs _. along-51 _ _ (headed words n (kit .list-a) ea) (headed (drop n words) m (kit .list-b n ea) eb) _ rs;
       })
 
--- ---- so a cycle, a log and a kit are as they were, but for what W2 moved
+-- ---- so a cycle, a log and a kit are as they were, but for what later requests moved
 
 module _ (m : MachineData) (h : Headed51 m) (s : State) (g : Given) (head : g .report .head ≡ 51) where
-  pub rows-51 : rowsOf m s g ≡ rowsUnder (ungeared faultStops) m s g
-  rows-51 = rows-now m s g ∙ rows-same (geared faultStops) (ungeared faultStops) m s g (agree-51 faultStops m h s g head)
+  pub rows-51 : rowsOf m s g ≡ rowsUnder withoutW1 m s g
+  rows-51 = rows-now m s g ∙ rows-same now withoutW1 m s g (agree-51 faultStops steadied m h s g head)
 
-  pub next-51 : next m s g ≡ nextUnder (ungeared faultStops) m s g
-  next-51 = next-now m s g ∙ next-same (geared faultStops) (ungeared faultStops) m s g (agree-51 faultStops m h s g head)
+  pub next-51 : next m s g ≡ nextUnder withoutW1 m s g
+  next-51 = next-now m s g ∙ next-same now withoutW1 m s g (agree-51 faultStops steadied m h s g head)
 
-  pub word-51 : word m s g ≡ wordUnder (ungeared faultStops) m s g
-  word-51 = word-now m s g ∙ word-same (geared faultStops) (ungeared faultStops) m s g (agree-51 faultStops m h s g head)
+  pub word-51 : word m s g ≡ wordUnder withoutW1 m s g
+  word-51 = word-now m s g ∙ word-same now withoutW1 m s g (agree-51 faultStops steadied m h s g head)
 
 pub running-51 : (a b : Channel) → Headed51 (a .list) → Headed51 (b .list) → (out : List ℕ) (rs : List CycleRecord) →
-    running a b out rs ≡ runningUnder (ungeared faultStops) a b out rs
-running-51 a b ha hb out rs = running-now a b out rs ∙ running-ungeared faultStops a b ha hb out rs
+    running a b out rs ≡ runningUnder withoutW1 a b out rs
+running-51 a b ha hb out rs = running-now a b out rs ∙ running-ungeared faultStops steadied a b ha hb out rs
 
-pub listed-51 : (bytes : List ℕ) → UngearedKit (wordsOf bytes) → listed bytes ≡ listedUnder (ungeared faultStops) bytes
-listed-51 bytes kit = listed-now bytes ∙ listed-ungeared faultStops bytes kit
+pub listed-51 : (bytes : List ℕ) → HeadedKit heads51 (wordsOf bytes) → listed bytes ≡ listedUnder withoutW1 bytes
+listed-51 bytes kit = listed-now bytes ∙ listed-ungeared faultStops steadied bytes kit

@@ -3,3 +3,5 @@ pub mod Cycle
 pub mod Runs
 pub mod Headed51
 pub mod Active
+pub mod Steadied
+pub mod Earlier

@@ -1,5 +1,5 @@
--- A cycle under any rules. All else is taken as it is now: the table of causes, n<nx and what a usable cycle leaves are those of now, with the step and the
--- cause 13 of the rules. That the comparisons of a step of 1 to 1 are document 01's is `too-fast-51` and `slower-51` in proofs/Headed51.antt; and data 0 to 50
+-- A cycle under any rules. All else is taken as it is now: the table of causes and what a usable cycle leaves are those of now, with the step and the cause 13
+-- of the rules; n<nx goes on in the state, whatever the rules show of it. That the comparisons of a step of 1 to 1 are document 01's is `too-fast-51` and `slower-51` in proofs/Headed51.antt; and data 0 to 50
 -- are read by its table, `datum-51` in proofs/Lists.antt.
 use Prim.Native.Nat.{ℕ}
 use mathlib.Core.Bool.{Bool, true, not, cond, _&&_}
@@ -14,7 +14,6 @@ use Rattle.comparison.specs.declared.Fault.{Fault}
 use Rattle.comparison.specs.Comparison.{positionDiffers, inputsDiffer, faultNext}
 use Rattle.causes.specs.declared.Cause.{Cause}
 use Rattle.causes.specs.Causes.{cause, summaryOf, strongestOf, freshOf}
-use Rattle.channel_word.specs.Word.{belowNx}
 use Rattle.state.specs.declared.State.{State}
 use Rattle.state.specs.declared.Given.{Given}
 use Rattle.judge.specs.declared.Differences.{Differences}
@@ -79,4 +78,4 @@ module _ (rules : Rules) (m : MachineData) (s : State) (g : Given) where
       (record { k = rules .rise (m .count) (s .k); kept = s .kept; stop = Cancelled; previous = Absent })
 
   abbrev pub wordUnder : ℕ
-  wordUnder = shownWord (m .values) nextUnder (rules .usable m (g .reading) && belowNx (m .values) stepUnder)
+  wordUnder = shownWord (m .values) nextUnder (rules .usable m (g .reading) && rules .nx (m .values) stepUnder (s .kept .nx))

@@ -9,7 +9,7 @@ use lib.Dec.{T}
 use Rattle.words.specs.declared.Word.the-variants.{Head}
 use Rattle.words.specs.Words.{wordAt}
 use Rattle.machine_data.specs.declared.MachineData.{MachineData}
-use Rattle.machine_data.specs.Data.{functionOf}
+use Rattle.machine_data.specs.Data.{numberOf, functionOf}
 use Rattle.inputs.specs.declared.Reading.{Reading}
 use Rattle.inputs.specs.Usable.{usableOf}
 use Rattle.selection.specs.Selection.{selectedOf, isEffective}
@@ -22,6 +22,7 @@ use Rattle.state.specs.declared.Given.{Given}
 use Rattle.state.specs.State.{freshState}
 use Rattle.judge.specs.Causes.{choiceIn, faultIn}
 use Rattle.list.specs.declared.ListAnswer.the-variants.{Accepted}
+use Rattle.list.specs.Rules.{among, isHead}
 use Rattle.list.specs.Reading.{readList}
 use Rattle.log.specs.Run.{Both, givenA, givenB, deviceCycle}
 
@@ -32,14 +33,14 @@ pub record Headed51 (m : MachineData) : Type 0 where
   pub count : m .count ≡ 51
   pub lacks : (k : ℕ) → 51 ≤ k → getD (m .values) k (pos 0) ≡ pos 0
 
--- a list that is not headed 67
-abbrev pub Ungeared : List ℕ → Type 0
-Ungeared s = wordAt s 0 ≡ Head 67 → ⊥
+-- a list whose head, if it is one, is among these
+abbrev pub Headed : List ℕ → List ℕ → Type 0
+Headed heads s = (n : ℕ) → wordAt s 0 ≡ Head n → T (isHead n) → T (among n heads)
 
--- nor is the one behind it
-pub record UngearedKit (words : List ℕ) : Type 0 where
-  pub list-a : Ungeared words
-  pub list-b : (n : ℕ) → readList words .answer ≡ Accepted n → Ungeared (drop n words)
+-- and so is that of the one behind it
+pub record HeadedKit (heads words : List ℕ) : Type 0 where
+  pub list-a : Headed heads words
+  pub list-b : (n : ℕ) → readList words .answer ≡ Accepted n → Headed heads (drop n words)
 
 -- ---- W2
 
@@ -76,3 +77,15 @@ SelectsAlong da db (r ∷ rs) = Selects da (r .a) × Selects db (r .b) × Select
 -- on a channel that is fresh, or in which one of them is effective
 abbrev pub EffectiveIfChosen : State → Type 0
 EffectiveIfChosen s = s .kept .choice .chosen ≡ true → T (isEffective (s .kept .choice .effective))
+
+-- ---- W3
+
+-- "With both data 0", as in every list of 51 or 67 data (`short-unsteadied` in proofs/Steadied.antt)
+pub record Unsteadied (m : MachineData) : Type 0 where
+  pub no-hysteresis : numberOf (m .values) 67 ≡ 0
+  pub no-filter : numberOf (m .values) 68 ≡ 0
+
+-- in both lists of a kit, if they are accepted
+pub record UnsteadiedKit (words : List ℕ) : Type 0 where
+  pub list-a : (n : ℕ) → readList words .answer ≡ Accepted n → Unsteadied (readList words .list)
+  pub list-b : (n m : ℕ) → readList words .answer ≡ Accepted n → readList (drop n words) .answer ≡ Accepted m → Unsteadied (readList (drop n words) .list)

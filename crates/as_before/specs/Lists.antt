@@ -1,44 +1,65 @@
--- A list as it was read before W1: document 01, "Machine data" and "Words". Its data stand in the first 51 of the places that there are now; the others
--- hold 0, as they do in a refused list.
+-- A list as it was read before a request that added data: by the front of the table that there was, and by its heads. Its data stand in the first of the
+-- places that there are now; the others hold 0, as they do in a refused list. Document 01, "Machine data" and "Words".
 use Prim.Native.Nat.{ℕ, zero, suc, _+_}
-use mathlib.Core.Bool.{Bool, cond, _&&_}
-use mathlib.Core.List.{List}
+use mathlib.Core.Bool.{Bool, false, cond, _&&_, _||_}
+use mathlib.Core.List.{List, [], _∷_, _++_}
 use lib.ListN.{set}
 use lib.IntN.{ℤ}
 use lib.Signed.{leZ}
-use lib.Dec.{ltb, eqb}
+use lib.Dec.{leb}
 use Rattle.refusal.specs.declared.Refusal.the-variants.{WrongWord, OutOfRange}
 use Rattle.words.specs.Words.{wordAt}
 use Rattle.words.specs.Cases.{ifHead}
-use Rattle.ranges.specs.Table.{baseRows, rowOf}
+use Rattle.ranges.specs.Table.{Row, baseRows, gearRows, rowOf}
 use Rattle.datum.specs.declared.DatumRead as R
 use Rattle.datum.specs.declared.Units as U
 use Rattle.datum.specs.declared.DatumAnswer as D
 use Rattle.datum.specs.Datum.{unitsOf, datumAt}
 use Rattle.list.specs.declared.ListRead.{ListRead}
+use Rattle.list.specs.Rules.{among}
 use Rattle.list.specs.Reading.{zeros, refusedList, ends, onValue}
 
--- "51 data, numbers 0 to 50", by document 01's table
-abbrev pub inRange51 : ℕ → ℤ → Bool
-inRange51 k z = ltb k 51 && leZ (rowOf baseRows k .low) z && leZ z (rowOf baseRows k .high)
+-- a table has datum k: some row goes as far
+abbrev pub reaches : List Row → ℕ → Bool
+reaches [] k = false
+reaches (r ∷ rs) k = leb k (r .last) || reaches rs k
 
--- "per datum 1, 2, 3, 4"
-abbrev pub ofUnits51 : ℕ → ℕ → ℕ → U.Units → D.DatumAnswer
-ofUnits51 k at next (U.the-variants.Are z) = cond (inRange51 k z) (D.the-variants.Value z next) (D.the-variants.Refused (OutOfRange at))
-ofUnits51 k at next (U.the-variants.Refused why) = D.the-variants.Refused why
+module _ (table : List Row) where
+  -- z may be datum k, by this table
+  abbrev pub inRangeBy : ℕ → ℤ → Bool
+  inRangeBy k z = reaches table k && leZ (rowOf table k .low) z && leZ z (rowOf table k .high)
 
-abbrev pub ofRead51 : ℕ → ℕ → R.DatumRead → D.DatumAnswer
-ofRead51 k at (R.the-variants.Datum d next) = ofUnits51 k at next (unitsOf d at)
-ofRead51 k at (R.the-variants.Bad place) = D.the-variants.Refused (WrongWord place)
+  -- "per datum 1, 2, 3, 4"
+  abbrev pub ofUnitsBy : ℕ → ℕ → ℕ → U.Units → D.DatumAnswer
+  ofUnitsBy k at next (U.the-variants.Are z) = cond (inRangeBy k z) (D.the-variants.Value z next) (D.the-variants.Refused (OutOfRange at))
+  ofUnitsBy k at next (U.the-variants.Refused why) = D.the-variants.Refused why
 
-unfoldable pub value51 : List ℕ → ℕ → ℕ → D.DatumAnswer
-value51 s k at = ofRead51 k at (datumAt s k at)
+  abbrev pub ofReadBy : ℕ → ℕ → R.DatumRead → D.DatumAnswer
+  ofReadBy k at (R.the-variants.Datum d next) = ofUnitsBy k at next (unitsOf d at)
+  ofReadBy k at (R.the-variants.Bad place) = D.the-variants.Refused (WrongWord place)
 
--- "The first faulty datum gives the answer"
-unfoldable pub gather51 : ℕ → List ℕ → ℕ → ℕ → List ℤ → ListRead
-gather51 zero s k at vs = ends s (record { values = vs; count = k }) at
-gather51 (suc n) s k at vs = onValue (value51 s k at) (λ z next. gather51 n s (k + 1) next (set vs k z))
+  unfoldable pub valueBy : List ℕ → ℕ → ℕ → D.DatumAnswer
+  valueBy s k at = ofReadBy k at (datumAt s k at)
 
--- "list head, value 51"; "A list is a head and the data in number order"
-unfoldable pub read51 : List ℕ → ListRead
-read51 s = ifHead (wordAt s 0) (λ n. cond (eqb n 51) (gather51 n s 0 1 zeros) (refusedList (WrongWord 0))) (refusedList (WrongWord 0))
+  -- "The first faulty datum gives the answer"
+  unfoldable pub gatherBy : ℕ → List ℕ → ℕ → ℕ → List ℤ → ListRead
+  gatherBy zero s k at vs = ends s (record { values = vs; count = k }) at
+  gatherBy (suc n) s k at vs = onValue (valueBy s k at) (λ z next. gatherBy n s (k + 1) next (set vs k z))
+
+  -- "A list is a head and the data in number order", with one of these heads
+  unfoldable pub readBy : List ℕ → List ℕ → ListRead
+  readBy heads s = ifHead (wordAt s 0) (λ n. cond (among n heads) (gatherBy n s 0 1 zeros) (refusedList (WrongWord 0))) (refusedList (WrongWord 0))
+
+-- before W1: "51 data, numbers 0 to 50"; "list head, value 51"
+abbrev pub heads51 : List ℕ
+heads51 = 51 ∷ []
+
+abbrev pub read51 : List ℕ → ListRead
+read51 = readBy baseRows heads51
+
+-- before W3: W1's data too; "the list head then says 67"
+abbrev pub heads67 : List ℕ
+heads67 = 51 ∷ 67 ∷ []
+
+abbrev pub read67 : List ℕ → ListRead
+read67 = readBy (baseRows ++ gearRows) heads67

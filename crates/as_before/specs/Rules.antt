@@ -1,5 +1,5 @@
--- What the requests have moved in how a list is read and a cycle goes, as one record: the rules of now, those before W2 and those of document 01. What no
--- request moved is not kept twice: a cycle under any rules is Cycle.antt, a run Runs.antt.
+-- What the requests have moved in how a list is read and a cycle goes, as one record: the rules of now, those without one request, and those before one, back to
+-- document 01's. What no request moved is not kept twice: a cycle under any rules is Cycle.antt, a run Runs.antt.
 use Prim.Native.Nat.{ℕ, suc, _+_, _/_, _%_, _^_}
 use mathlib.Core.Bool.{Bool, cond, _&&_}
 use mathlib.Core.List.{List}
@@ -10,6 +10,10 @@ use Rattle.machine_data.specs.declared.MachineData.{MachineData}
 use Rattle.machine_data.specs.declared.Ratio.{Ratio}
 use Rattle.inputs.specs.declared.Reading.{Reading}
 use Rattle.inputs.specs.Usable.{usableOf, ratioIn}
+use Rattle.speed.specs.declared.Step.{Step}
+use Rattle.speed.specs.Speed.{slower}
+use Rattle.nx_signal.specs.declared.Signal.{Signal}
+use Rattle.nx_signal.specs.Signal.{signalNext}
 use Rattle.selection.specs.declared.Selection.{Selection}
 use Rattle.report.specs.declared.Report.{Report}
 use Rattle.report.specs.Report.{nextK, reportOf, datumDiffers}
@@ -18,11 +22,15 @@ use Rattle.comparison.specs.Comparison.{expired}
 use Rattle.active.specs.Active.{faultStops}
 use Rattle.list.specs.declared.ListRead.{ListRead}
 use Rattle.list.specs.Reading.{readList}
-use Rattle.as_before.specs.Lists.{read51}
+use Rattle.as_before.specs.Lists.{read51, read67}
 
 -- whether cause 13 stands, by the data, the effective selection and F
 abbrev pub Cause13 : Type 0
 Cause13 = List ℤ → Selection → Fault → Bool
+
+-- what a usable cycle shows of n<nx, by the data, its step and the signal that it finds
+abbrev pub Nx : Type 0
+Nx = List ℤ → Step → Signal → Bool
 
 pub record Rules : Type 0 where
   -- how a list is read, which inputs are usable, the ratio of a step, what follows k, a report, and cause 12
@@ -34,12 +42,14 @@ pub record Rules : Type 0 where
   pub differs : MachineData → ℕ → Report → Bool
   -- cause 13
   pub stops : Cause13
+  -- n<nx
+  pub nx : Nx
 
 -- ---- since W1
 
-abbrev pub geared : Cause13 → Rules
-geared stops =
-    record { read = readList; usable = usableOf; ratio = ratioIn; rise = nextK; report = reportOf; differs = datumDiffers; stops = stops }
+abbrev pub geared : (List ℕ → ListRead) → Cause13 → Nx → Rules
+geared read stops nx =
+    record { read = read; usable = usableOf; ratio = ratioIn; rise = nextK; report = reportOf; differs = datumDiffers; stops = stops; nx = nx }
 
 -- ---- before W1: document 01, "Safe inputs and reports" and "One cycle of a channel". Nothing here looks at a gear's bits, a ratio or a report's head
 
@@ -71,8 +81,8 @@ report51 m k r = record { position = r .position; inputs = r .inputs; datum = en
 abbrev pub differs51 : MachineData → ℕ → Report → Bool
 differs51 m k o = ltb 0 (natAbs (entry51 (m .values) k -ℤ o .datum))
 
-abbrev pub ungeared : Cause13 → Rules
-ungeared stops =
+abbrev pub ungeared : Cause13 → Nx → Rules
+ungeared stops nx =
     record {
       read = read51;
       usable = λ m r. usable51 r;
@@ -81,6 +91,7 @@ ungeared stops =
       report = report51;
       differs = differs51;
       stops = stops;
+      nx = nx;
     }
 
 -- ---- before W2
@@ -89,13 +100,37 @@ ungeared stops =
 abbrev pub inEveryCase : Cause13
 inEveryCase d effective f = expired f
 
--- ---- the rules that have been
+-- ---- before W3, and since
+
+-- "n<nx: |d| × 60 < datum 25 × T"
+abbrev pub atOnce : Nx
+atOnce d step s = slower d step 25
+
+-- by its value and run
+abbrev pub steadied : Nx
+steadied d step s = signalNext d step s .on
+
+-- ---- the rules of now, and those of now without one request
 
 abbrev pub now : Rules
-now = geared faultStops
+now = geared readList faultStops steadied
+
+abbrev pub withoutW1 : Rules
+withoutW1 = ungeared faultStops steadied
+
+abbrev pub withoutW2 : Rules
+withoutW2 = geared readList inEveryCase steadied
+
+abbrev pub withoutW3 : Rules
+withoutW3 = geared readList faultStops atOnce
+
+-- ---- the rules that have been
+
+abbrev pub beforeW3 : Rules
+beforeW3 = geared read67 faultStops atOnce
 
 abbrev pub beforeW2 : Rules
-beforeW2 = geared inEveryCase
+beforeW2 = geared read67 inEveryCase atOnce
 
 abbrev pub document01 : Rules
-document01 = ungeared inEveryCase
+document01 = ungeared inEveryCase atOnce

@@ -23,7 +23,7 @@ pub type Codes = [u8; CODES];
 pub extern "C" fn monitor_interface() -> u32
     ensures { λ r. ⌜ r ≡ interfaceNumber ⌝ }
 {
-    3
+    4
 }
 
 // A list read into a fresh channel: 0 and the words used, or the refusal's number and place, with the arrays as they were.

@@ -2,13 +2,11 @@
 ghost use mathlib.Core.Path.{_≡_};
 ghost use Rattle.bits.specs.Bits.{flag};
 ghost use Rattle.selection.specs.Selection.{isEffective};
-ghost use Rattle.channel_word.specs.Word.{shownSg, isHeld, shownCams, belowNx, placed, Parts, wordBy};
+ghost use Rattle.channel_word.specs.Word.{shownSg, isHeld, shownCams, shownNx, placed, Parts, wordBy};
 use machine_data::Values;
 use machine_data::functions;
-use machine_data::numbers;
 use rank::Rank;
 use selection::Selection;
-use speed::Step;
 use stop::Stop;
 
 fn flag(b: bool) -> u8
@@ -59,15 +57,11 @@ fn shown_cams(values: &Values, cams: u32) -> u8
     }
 }
 
-// n<nx, while its function is on; else the speed is not looked at.
-pub fn below_nx(values: &Values, step: Step) -> bool
-    ensures { λ r. ⌜ r ≡ belowNx (now (values .entry)) step ⌝ }
+// n<nx, while its function is on.
+fn shown_nx(values: &Values, nx: bool) -> bool
+    ensures { λ r. ⌜ r ≡ shownNx (now (values .entry)) nx ⌝ }
 {
-    if machine_data::function(values, functions::NX) {
-        speed::slower(values, step, numbers::NX)
-    } else {
-        false
-    }
+    machine_data::function(values, functions::NX) && nx
 }
 
 // The parts of a word, as numbers.
@@ -76,7 +70,7 @@ struct WordParts {
     cancelled: u8,
     cams: u8,
     sg: u8,
-    slow: u8,
+    nx: u8,
     rank: u8,
     held: u8,
     fault: u8,
@@ -84,27 +78,27 @@ struct WordParts {
 
 // The parts at their places.
 fn placed(p: WordParts) -> u32
-    requires { ⌜ Parts (p .effective) (p .cancelled) (p .sg) (p .slow) (p .rank) (p .held) (p .fault) ⌝ }
-    ensures { λ r. ⌜ r ≡ placed (p .effective) (p .cancelled) (p .cams) (p .sg) (p .slow) (p .rank) (p .held) (p .fault) ⌝ }
+    requires { ⌜ Parts (p .effective) (p .cancelled) (p .sg) (p .nx) (p .rank) (p .held) (p .fault) ⌝ }
+    ensures { λ r. ⌜ r ≡ placed (p .effective) (p .cancelled) (p .cams) (p .sg) (p .nx) (p .rank) (p .held) (p .fault) ⌝ }
 {
     let low = (p.effective as u32) + 4 * (p.cancelled as u32) + 128 + 256 * (p.cams as u32);
-    let middle = 524288 * (p.sg as u32) + 2097152 * (p.slow as u32);
+    let middle = 524288 * (p.sg as u32) + 2097152 * (p.nx as u32);
     let high = 16777216 * (p.rank as u32)
         + 134217728 * (p.held as u32)
         + 268435456 * (p.fault as u32);
     low + middle + high
 }
 
-// The word of what a cycle leaves: the effective selection, the stop, F, the cams, and whether the axis is below nx.
+// The word of what a cycle leaves: the effective selection, the stop, F, the cams, and n<nx.
 pub fn channel_word(
     values: &Values,
     effective: Selection,
     stop: Stop,
     fault: bool,
     cams: u32,
-    slow: bool,
+    nx: bool,
 ) -> u32
-    ensures { λ r. ⌜ r ≡ wordBy (now (values .entry)) effective stop fault cams slow ⌝ }
+    ensures { λ r. ⌜ r ≡ wordBy (now (values .entry)) effective stop fault cams nx ⌝ }
 {
     let rank = stop.rank().number();
     placed(WordParts {
@@ -112,7 +106,7 @@ pub fn channel_word(
         cancelled: flag(rank == Rank::NUMBER_A),
         cams: shown_cams(values, cams),
         sg: shown_sg(effective),
-        slow: flag(slow),
+        nx: flag(shown_nx(values, nx)),
         rank,
         held: flag(is_held(stop)),
         fault: flag(fault),

@@ -1,5 +1,5 @@
--- What a cycle makes of the run of differing input words and of F, by the cases of their definitions. Assumes nothing.
-use Prim.Native.Nat.{ℕ, _+_, _-_, _≤_, _<_, min}
+-- What a cycle makes of F, by the cases of its definition. Assumes nothing.
+use Prim.Native.Nat.{_-_, _≤_, _<_}
 use mathlib.Core.Bool.{Bool, true, false, cond, _||_}
 use mathlib.Core.List.{List}
 use mathlib.Core.Path.{_≡_, refl, _∙_}
@@ -7,29 +7,9 @@ use native.Mathlib.Omega.{arith}
 use borrow.Author.Tests.{eq-eqb, ne-eqb}
 use lib.Dec.{eqb}
 use lib.IntN.{ℤ}
-use Rattle.inputs.specs.declared.Reading.{Reading}
-use Rattle.report.specs.declared.Report.{Report}
 use Rattle.machine_data.specs.Data.{numberOf}
 use Rattle.comparison.specs.declared.Fault.{Fault}
-use Rattle.comparison.specs.Comparison.{runOf, faultNext, expired}
-
--- the run of cycles in which the input words differ
-module _ (before : ℕ) (r : Reading) (o : Report) where
-  pub run-most : runOf before r o ≤ 1001
-  unfolding runOf
-  run-most = go (eqb (r .inputs) (o .inputs))
-    where
-      go : (t : Bool) → cond t 0 (min (before + 1) 1001) ≤ 1001
-      go true = omega arith
-      go false = omega arith
-
-  pub run-ends : r .inputs ≡ o .inputs → runOf before r o ≡ 0
-  unfolding runOf
-  run-ends e = rw (eq-eqb (r .inputs) (o .inputs) e)
-
-  pub run-grows : (r .inputs ≡ o .inputs → ⊥) → before < 1001 → runOf before r o ≡ before + 1
-  unfolding runOf
-  run-grows e h = rw (ne-eqb (r .inputs) (o .inputs) e) (omega arith)
+use Rattle.comparison.specs.Comparison.{faultNext, expired}
 
 module _ (d : List ℤ) (differs : Bool) (f : Fault) where
   -- "10, 11, 12 set F": it is on after a cycle where it was on or one of them stands

@@ -1,11 +1,12 @@
 -- Causes 10 and 11, and F: document 01, step 4.
-use Prim.Native.Nat.{ℕ, _+_, _-_, min}
-use mathlib.Core.Bool.{Bool, true, false, cond, _&&_}
+use Prim.Native.Nat.{ℕ, _-_}
+use mathlib.Core.Bool.{Bool, true, false, not, cond, _&&_}
 use mathlib.Core.List.{List}
 use lib.IntN.{ℤ, natAbs, _-ℤ_}
 use lib.Dec.{ltb, eqb}
 use Rattle.machine_data.specs.Data.{numberOf}
 use Rattle.inputs.specs.declared.Reading.{Reading}
+use Rattle.runs.specs.Run.{runNext}
 use Rattle.report.specs.declared.Report.{Report}
 use Rattle.comparison.specs.declared.Fault.{Fault}
 
@@ -13,9 +14,9 @@ use Rattle.comparison.specs.declared.Fault.{Fault}
 unfoldable pub positionDiffers : List ℤ → Reading → Report → Bool
 positionDiffers d r o = ltb (numberOf d 26) (natAbs (r .position -ℤ o .position))
 
--- "usable cycles running" in which the input words differ; not counted past 1,001, which is above every datum 28
+-- "usable cycles running" in which the input words differ
 unfoldable pub runOf : ℕ → Reading → Report → ℕ
-runOf before r o = cond (eqb (r .inputs) (o .inputs)) 0 (min (before + 1) 1001)
+runOf before r o = runNext (not (eqb (r .inputs) (o .inputs))) before
 
 -- "11 input words differ in more than datum 28 usable cycles running"
 unfoldable pub inputsDiffer : List ℤ → ℕ → Bool

@@ -23,14 +23,11 @@ pub fn position_differs(values: &Values, reading: Reading, report: Report) -> bo
         < (distance::distance(reading.position, report.position) as u64)
 }
 
-// For how many usable cycles running the input words differ. It stops at 1,001, which is above every datum 28.
+// For how many usable cycles running the input words differ.
 pub fn run(before: u32, reading: Reading, report: Report) -> u32
     ensures { λ r. ⌜ r ≡ runOf before reading report ⌝ }
 {
-    if reading.inputs == report.inputs {
-        return 0;
-    }
-    if before < 1001 { before + 1 } else { 1001 }
+    runs::next(before, reading.inputs != report.inputs)
 }
 
 // Cause 11.

@@ -15,7 +15,8 @@ use Rattle.selection.specs.declared.Selection.{Selection}
 use Rattle.selection.specs.declared.Selection.the-variants.{Nothing, Sg, Sbh}
 use Rattle.selection.specs.declared.Choice.{Choice}
 use Rattle.selection.specs.Selection.{selectedOf, stricter, boundOf, delayCount, waitedOf, choiceNext}
-use Rattle.demand_3.specs.Claims.{All, sgLessOne}
+use Rattle.runs.specs.Running.{All}
+use Rattle.demand_3.specs.Claims.{sgLessOne}
 use Rattle.laws.proofs.Bools.{if-case, both}
 
 -- ---- the number of an SG

@@ -15,7 +15,8 @@ use Rattle.selection.specs.declared.Selection.the-variants.{Nothing, Sg, Sbh}
 use Rattle.stop.specs.Stop.{rankOf, levelOf}
 use Rattle.state.specs.declared.State.{State}
 use Rattle.selection.specs.Selection.{isEffective}
-use Rattle.channel_word.specs.Word.{shownSg, isHeld, placed, shownCams, wordBy}
+use Rattle.channel_word.specs.Word.{shownSg, isHeld, placed, shownCams, shownNx, wordBy}
+use Rattle.channel_word.proofs.Widths.{sg-le}
 use Rattle.advance.specs.After.{shownWord}
 use Rattle.device.specs.Device.{wordRank}
 use Rattle.demand_3.specs.Claims.{sgLessOne}
@@ -29,19 +30,19 @@ bit-is w n b e = flag-is b (w / 2 ^ n % 2) e
 
 -- ---- the parts of a word
 
-module _ (effective cancelled slow held fault : Bool) (cams sg rank : ℕ) (cams-small : cams < 256) (sg-small : sg < 4) (rank-small : rank ≤ 5) where
+module _ (effective cancelled nx held fault : Bool) (cams sg rank : ℕ) (cams-small : cams < 256) (sg-small : sg < 4) (rank-small : rank ≤ 5) where
   abbrev w : ℕ
-  w = placed (flag effective) (flag cancelled) cams sg (flag slow) rank (flag held) (flag fault)
+  w = placed (flag effective) (flag cancelled) cams sg (flag nx) rank (flag held) (flag fault)
 
   -- the parts of one bit
   record Flags : Type 0 where
     e1 : flag effective < 2
     c1 : flag cancelled < 2
-    s1 : flag slow < 2
+    s1 : flag nx < 2
     h1 : flag held < 2
 
   flags : Flags
-  flags = record { e1 = flag-small effective; c1 = flag-small cancelled; s1 = flag-small slow; h1 = flag-small held }
+  flags = record { e1 = flag-small effective; c1 = flag-small cancelled; s1 = flag-small nx; h1 = flag-small held }
 
   placed-effective : bitOf w 0 ≡ effective
   placed-effective = let f = flags in bit-is w 0 effective (omega arith)
@@ -53,21 +54,28 @@ module _ (effective cancelled slow held fault : Bool) (cams sg rank : ℕ) (cams
   unfolding fieldOf
   placed-sg =
       let f = flags in
-      part (2 ^ 19) 4 (flag effective + 2 ^ 2 * flag cancelled + 2 ^ 7 + 2 ^ 8 * cams) sg (flag slow + 2 ^ 3 * rank + 2 ^ 6 * flag held + 2 ^ 7 * flag fault) _
+      part (2 ^ 19) 4 (flag effective + 2 ^ 2 * flag cancelled + 2 ^ 7 + 2 ^ 8 * cams) sg (flag nx + 2 ^ 3 * rank + 2 ^ 6 * flag held + 2 ^ 7 * flag fault) _
       (omega arith) sg-small (omega arith)
+
+  placed-nx : bitOf w 21 ≡ nx
+  placed-nx =
+      let f = flags in
+      bit-is w 21 nx
+      (part (2 ^ 21) 2 (flag effective + 2 ^ 2 * flag cancelled + 2 ^ 7 + 2 ^ 8 * cams + 2 ^ 19 * sg) (flag nx) (2 ^ 2 * rank + 2 ^ 5 * flag held + 2 ^ 6 * flag fault) _
+      (omega arith) (omega arith) (omega arith))
 
   placed-rank : fieldOf w 24 8 ≡ rank
   unfolding fieldOf
   placed-rank =
       let f = flags in
-      part (2 ^ 24) 8 (flag effective + 2 ^ 2 * flag cancelled + 2 ^ 7 + 2 ^ 8 * cams + 2 ^ 19 * sg + 2 ^ 21 * flag slow) rank (flag held + 2 * flag fault) _
+      part (2 ^ 24) 8 (flag effective + 2 ^ 2 * flag cancelled + 2 ^ 7 + 2 ^ 8 * cams + 2 ^ 19 * sg + 2 ^ 21 * flag nx) rank (flag held + 2 * flag fault) _
       (omega arith) (omega arith) (omega arith)
 
   placed-held : bitOf w 27 ≡ held
   placed-held =
       let f = flags in
       bit-is w 27 held
-      (part (2 ^ 27) 2 (flag effective + 2 ^ 2 * flag cancelled + 2 ^ 7 + 2 ^ 8 * cams + 2 ^ 19 * sg + 2 ^ 21 * flag slow + 2 ^ 24 * rank) (flag held) (flag fault) _
+      (part (2 ^ 27) 2 (flag effective + 2 ^ 2 * flag cancelled + 2 ^ 7 + 2 ^ 8 * cams + 2 ^ 19 * sg + 2 ^ 21 * flag nx + 2 ^ 24 * rank) (flag held) (flag fault) _
       (omega arith) (omega arith) (omega arith))
 
   -- the device reads the same rank, where bit 2 stands for rank 5
@@ -110,13 +118,24 @@ shown-sg Nothing h = refl
 shown-sg (Sg n o) h = mod-eq-of-lt h
 shown-sg Sbh h = refl
 
-pub shows : (d : List ℤ) (s : State) (slow : Bool) → sgLessOne (s .kept .choice .effective) < 4 → Shows (shownWord d s slow) s
+eight-cams : (d : List ℤ) (cams : ℕ) → shownCams d cams < 256
+eight-cams d cams = if-case (λ k. k < 256) (functionOf d 2) _ _ (λ _. omega arith) (λ _. omega arith)
+
+-- "21 n<nx"
+pub shows-nx : (d : List ℤ) (s : State) (nx : Bool) → bitOf (shownWord d s nx) 21 ≡ shownNx d nx
 unfolding wordBy
-shows d s slow g =
-    let sg = shown-sg (s .kept .choice .effective) g in
-    let p = parts (isEffective (s .kept .choice .effective)) (eqb (levelOf (s .stop)) 5) slow (isHeld (s .stop)) (s .kept .fault .on)
+shows-nx d s nx =
+    placed-nx (isEffective (s .kept .choice .effective)) (eqb (levelOf (s .stop)) 5) (shownNx d nx) (isHeld (s .stop)) (s .kept .fault .on)
     (shownCams d (s .kept .cams)) (shownSg (s .kept .choice .effective)) (levelOf (s .stop))
-    (if-case (λ k. k < 256) (functionOf d 2) _ _ (λ _. omega arith) (λ _. omega arith)) (omega arith) (rank-le (rankOf (s .stop))) refl in
+    (eight-cams d (s .kept .cams)) (omega (arith, sg-le (s .kept .choice .effective))) (rank-le (rankOf (s .stop)))
+
+pub shows : (d : List ℤ) (s : State) (nx : Bool) → sgLessOne (s .kept .choice .effective) < 4 → Shows (shownWord d s nx) s
+unfolding wordBy
+shows d s nx g =
+    let sg = shown-sg (s .kept .choice .effective) g in
+    let p = parts (isEffective (s .kept .choice .effective)) (eqb (levelOf (s .stop)) 5) (shownNx d nx) (isHeld (s .stop)) (s .kept .fault .on)
+    (shownCams d (s .kept .cams)) (shownSg (s .kept .choice .effective)) (levelOf (s .stop))
+    (eight-cams d (s .kept .cams)) (omega arith) (rank-le (rankOf (s .stop))) refl in
     record {
       rank = p .is-rank;
       word-rank = p .is-word-rank;

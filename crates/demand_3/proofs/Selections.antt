@@ -13,7 +13,8 @@ use Rattle.state.specs.declared.State.{State}
 use Rattle.state.specs.declared.Given.{Given}
 use Rattle.judge.specs.Causes.{choiceIn}
 use Rattle.channel.specs.Cycle.{next}
-use Rattle.demand_3.specs.Claims.{All, selectedIn, usableBefore, window, Waited, stateAfter, effective}
+use Rattle.runs.specs.Running.{All, usableBefore, window}
+use Rattle.demand_3.specs.Claims.{selectedIn, usableIn, Waited, stateAfter, effective}
 use Rattle.demand_3.proofs.OfSelection.{Placed, choice-placed, still-placed, placed-all}
 use Rattle.demand_3.proofs.Turns.{Waits, Goes}
 
@@ -28,12 +29,12 @@ module _ (L : ℕ → MachineData) (S : ℕ → State) (G : ℕ → Given) (goes
   abbrev Kept : Choice → List ℕ → Type 0
   Kept x ns = x .chosen ≡ true → PlacedIn x ns
 
-  placed-used : (n : ℕ) → usableOf (L n) (G n .reading) ≡ true → Kept (S n .kept .choice) (usableBefore L G n) → PlacedIn (stateAfter L S G n .kept .choice) (usableBefore L G (suc n))
+  placed-used : (n : ℕ) → usableOf (L n) (G n .reading) ≡ true → Kept (S n .kept .choice) (usableBefore (usableIn L G) n) → PlacedIn (stateAfter L S G n .kept .choice) (usableBefore (usableIn L G) (suc n))
   unfolding usableBefore next choiceIn
   placed-used n u k =
-      simp u (choice-placed (selectedIn L G) delay (L n .values) n refl (S n .kept .choice) (G n .reading .position) (usableBefore L G n) (goes .ready n .delay) k)
+      simp u (choice-placed (selectedIn L G) delay (L n .values) n refl (S n .kept .choice) (G n .reading .position) (usableBefore (usableIn L G) n) (goes .ready n .delay) k)
 
-  kept-unused : (n : ℕ) → usableOf (L n) (G n .reading) ≡ false → Kept (S n .kept .choice) (usableBefore L G n) → Kept (stateAfter L S G n .kept .choice) (usableBefore L G (suc n))
+  kept-unused : (n : ℕ) → usableOf (L n) (G n .reading) ≡ false → Kept (S n .kept .choice) (usableBefore (usableIn L G) n) → Kept (stateAfter L S G n .kept .choice) (usableBefore (usableIn L G) (suc n))
   unfolding usableBefore next
   kept-unused n u k = simp u k
 
@@ -41,13 +42,13 @@ module _ (L : ℕ → MachineData) (S : ℕ → State) (G : ℕ → Given) (goes
   kept-passes x y ns w k e =
       still-placed (selectedIn L G) delay x y ns (w .same-effective) (w .no-longer) (w .runs-on) (k (sym (w .same-chosen) ∙ e))
 
-  kept-at : (n : ℕ) → Kept (S n .kept .choice) (usableBefore L G n)
+  kept-at : (n : ℕ) → Kept (S n .kept .choice) (usableBefore (usableIn L G) n)
   kept-at zero = λ e. absurd (true≢false (sym e ∙ goes .none-chosen))
-  kept-at (suc n) = kept-passes (stateAfter L S G n .kept .choice) (S (suc n) .kept .choice) (usableBefore L G (suc n)) (goes .passes n .choice) (go (usableOf (L n) (G n .reading)) refl (kept-at n))
+  kept-at (suc n) = kept-passes (stateAfter L S G n .kept .choice) (S (suc n) .kept .choice) (usableBefore (usableIn L G) (suc n)) (goes .passes n .choice) (go (usableOf (L n) (G n .reading)) refl (kept-at n))
     where
-      go : (b : Bool) → usableOf (L n) (G n .reading) ≡ b → Kept (S n .kept .choice) (usableBefore L G n) → Kept (stateAfter L S G n .kept .choice) (usableBefore L G (suc n))
+      go : (b : Bool) → usableOf (L n) (G n .reading) ≡ b → Kept (S n .kept .choice) (usableBefore (usableIn L G) n) → Kept (stateAfter L S G n .kept .choice) (usableBefore (usableIn L G) (suc n))
       go true u k = λ e. placed-used n u k
       go false u k = kept-unused n u k
 
-  pub binds : (P : Selection → Type 0) (n w : ℕ) → usableOf (L n) (G n .reading) ≡ true → Waited L G n w → All (λ i. P (selectedIn L G i)) (window L G n w) → P (effective L S G n)
-  binds P n w u h = placed-all (selectedIn L G) delay P (stateAfter L S G n .kept .choice) (usableBefore L G (suc n)) (placed-used n u (kept-at n)) w (omega arith)
+  pub binds : (P : Selection → Type 0) (n w : ℕ) → usableOf (L n) (G n .reading) ≡ true → Waited L G n w → All (λ i. P (selectedIn L G i)) (window (usableIn L G) n w) → P (effective L S G n)
+  binds P n w u h = placed-all (selectedIn L G) delay P (stateAfter L S G n .kept .choice) (usableBefore (usableIn L G) (suc n)) (placed-used n u (kept-at n)) w (omega arith)

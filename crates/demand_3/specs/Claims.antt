@@ -1,15 +1,16 @@
 -- The claims of demand 3 over numbered cycles: document 01, "The runs of demand 3". They speak of three functions of a cycle's number, from 0: `L n` is the
 -- list in force in cycle n, `S n` the state that the cycle finds, and `G n` what it is given. Ranks, causes and data of a cycle go by its own list.
-use Prim.Native.Nat.{ℕ, zero, suc, _+_, _≤_, _<_}
+use Prim.Native.Nat.{ℕ, suc, _+_, _≤_, _<_}
 use mathlib.Core.Bool.{Bool, false, not, cond, _||_}
 use mathlib.Core.List.{List, [], _∷_}
 use mathlib.Core.Logic.{_⊎_}
 use mathlib.Core.Path.{_≡_}
 use lib.Dec.{T, eqb}
-use lib.ListN.{getD, take}
+use lib.ListN.{getD}
 use Rattle.bits.specs.Bits.{bitOf, fieldOf}
 use Rattle.machine_data.specs.declared.MachineData.{MachineData}
 use Rattle.machine_data.specs.Data.{numberOf}
+use Rattle.runs.specs.Running.{All, usableBefore, window}
 use Rattle.inputs.specs.Usable.{usableOf}
 use Rattle.selection.specs.declared.Selection.{Selection}
 use Rattle.selection.specs.declared.Selection.the-variants.{Nothing, Sg, Sbh}
@@ -57,28 +58,18 @@ rankInWord w = fieldOf w 24 8
 abbrev pub rankInDevice : ℕ → ℕ
 rankInDevice w = fieldOf w 1 8
 
--- "all"
-abbrev pub All : {X : Type 0} → (X → Type 0) → List X → Type 0
-All P [] = Unit {0}
-All P (x ∷ xs) = P x × All P xs
-
 module _ (L : ℕ → MachineData) (G : ℕ → Given) where
   -- what cycle n selects
   abbrev pub selectedIn : ℕ → Selection
   selectedIn n = selectedOf (L n .values) (G n .reading .inputs)
 
-  -- the usable cycles before cycle n, the latest first
-  unfoldable pub usableBefore : ℕ → List ℕ
-  usableBefore zero = []
-  usableBefore (suc n) = cond (usableOf (L n) (G n .reading)) (n ∷ usableBefore n) (usableBefore n)
-
-  -- "a usable cycle and the last usable ones before it": w of these
-  abbrev pub window : ℕ → ℕ → List ℕ
-  window n w = take (suc w) (usableBefore (suc n))
+  -- cycle n is usable
+  abbrev pub usableIn : ℕ → Bool
+  usableIn n = usableOf (L n) (G n .reading)
 
   -- "as many as datum 27 says", by the list in force in the first of them, or in cycle 0 where there are fewer
   abbrev pub Waited : ℕ → ℕ → Type 0
-  Waited n w = numberOf (L (getD (usableBefore (suc n)) w 0) .values) 27 ≤ w
+  Waited n w = numberOf (L (getD (usableBefore usableIn (suc n)) w 0) .values) 27 ≤ w
 
 module _ (L : ℕ → MachineData) (S : ℕ → State) (G : ℕ → Given) where
   -- the state that cycle n leaves
@@ -141,9 +132,9 @@ module _ (L : ℕ → MachineData) (S : ℕ → State) (G : ℕ → Given) where
     -- "Where a usable cycle and the last usable ones before it, as many as datum 27 says, all select X or something stricter, the effective selection in it is
     -- X or stricter", by the limits of any list, the one in force among them
     pub binds : (n w : ℕ) → n < size → T (usableOf (L n) (G n .reading)) → Waited L G n w → (m : MachineData) (x : Selection) →
-        All (λ i. AtLeast m x (selectedIn L G i)) (window L G n w) → AtLeast m x (effective n)
+        All (λ i. AtLeast m x (selectedIn L G i)) (window (usableIn L G) n w) → AtLeast m x (effective n)
     pub binds-by-order : (n w : ℕ) → n < size → T (usableOf (L n) (G n .reading)) → Waited L G n w → (m : MachineData) (x : Selection) →
-        All (λ i. NoLaxer m x (selectedIn L G i)) (window L G n w) → NoLaxer m x (effective n)
+        All (λ i. NoLaxer m x (selectedIn L G i)) (window (usableIn L G) n w) → NoLaxer m x (effective n)
     -- "bits 0 and 19-20 of the channel word are those of the effective selection"
     pub shown : (n : ℕ) → n < size → (bitOf (channel n) 0 ≡ isEffective (effective n)) × (fieldOf (channel n) 19 4 ≡ sgLessOne (effective n))
     -- "The device rank is never below the channel word's"

@@ -27,6 +27,7 @@ comes-back count s h = λ i.
                 };
             differing = s .kept .differing;
             fault = record { on = yes-back (s .kept .fault .on) i; left = s .kept .fault .left };
+            nx = record { run = s .kept .nx .run; on = yes-back (s .kept .nx .on) i };
           };
       stop = stop-back (s .stop) (h .stop) i;
       previous = previous-back (s .previous) (h .previous) i;

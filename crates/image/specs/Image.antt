@@ -39,6 +39,8 @@ stateFrom w =
             differing = getD w 10 0;
             -- word 11, F, and word 12, the cycles left of its time
             fault = record { on = yesFrom (getD w 11 0); left = getD w 12 0 };
+            -- word 17, the value of n<nx, and word 18, the usable cycles running in which the speed was below nx
+            nx = record { run = getD w 18 0; on = yesFrom (getD w 17 0) };
           };
       -- words 13 to 15
       stop = stopFrom (getD w 13 0) (getD w 14 0) (getD w 15 0);
@@ -70,6 +72,8 @@ stateWords count s =
     ∷ stop .first
     ∷ stop .second
     ∷ s .kept .cams
+    ∷ yesWord (s .kept .nx .on)
+    ∷ s .kept .nx .run
     ∷ []
 
 -- the list that data and words stand for

@@ -1,16 +1,17 @@
-// A channel's state as 17 words of 32 bits, and back: what a program keeps of a channel that crosses into its memory. Every
+// A channel's state as 19 words of 32 bits, and back: what a program keeps of a channel that crosses into its memory. Every
 // content of the words stands for some state.
 ghost use mathlib.Core.Path.{_≡_};
 ghost use Prim.Native.Nat.{_<_};
 ghost use Rattle.image.specs.Image.{countFrom, stateFrom};
 ghost use Rattle.image.specs.Ensures.{WordsEnsures};
 use comparison::Fault;
+use nx_signal::Signal;
 use selection::Choice;
 use state::Kept;
 use state::State;
 
 // How many words an image has.
-pub const WORDS: usize = 17;
+pub const WORDS: usize = 19;
 
 // The words of a channel's state, as they are lent.
 pub type Image = [u32; WORDS];
@@ -42,6 +43,10 @@ pub fn state_from(words: &Image) -> State
                 on: crossing::yes(words[11]),
                 left: words[12],
             },
+            nx: Signal {
+                run: words[18],
+                on: crossing::yes(words[17]),
+            },
         },
         stop: image_cases::stop_from(words[13], words[14], words[15]),
         previous: image_cases::previous_from(words[2], words[3]),
@@ -55,6 +60,7 @@ pub fn words_of(count: usize, state: State) -> Image
     let kept = state.kept;
     let choice = kept.choice;
     let fault = kept.fault;
+    let nx = kept.nx;
     let previous = state.previous;
     let before = image_cases::previous_words(previous);
     let selection = choice.effective;
@@ -79,5 +85,7 @@ pub fn words_of(count: usize, state: State) -> Image
         stop.first,
         stop.second,
         kept.cams,
+        crossing::yes_word(nx.on),
+        nx.run,
     ]
 }

@@ -31,8 +31,12 @@ pub struct ListRead {
 fn is_head(n: u32) -> bool
     ensures { λ r. ⌜ r ≡ isHead n ⌝ }
 {
-    let count = n as usize;
-    count == heads::BASE || count == heads::GEARS
+    match n as usize {
+        heads::BASE => true,
+        heads::GEARS => true,
+        heads::NX => true,
+        _ => false,
+    }
 }
 
 fn refused(why: Refusal) -> ListRead

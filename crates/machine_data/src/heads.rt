@@ -3,3 +3,6 @@ pub const BASE: usize = 51;
 
 // From here on a list has the gears' ratios.
 pub const GEARS: usize = 67;
+
+// From here on it has the hysteresis and the filter of n<nx.
+pub const NX: usize = 69;

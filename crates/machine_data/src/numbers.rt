@@ -1,4 +1,4 @@
-// The numbers of the data, as document 01's table and W1 have them. Where a row has several, the first.
+// The numbers of the data, as document 01's table, W1 and W3 have them. Where a row has several, the first.
 pub const CYCLE_TIME: usize = 0;
 
 pub const FUNCTIONS: usize = 1;
@@ -48,3 +48,7 @@ pub const OVERRIDE: usize = 35;
 pub const NUMERATOR: usize = 51;
 
 pub const DENOMINATOR: usize = 59;
+
+pub const NX_HYSTERESIS: usize = 67;
+
+pub const NX_FILTER: usize = 68;

@@ -1,4 +1,4 @@
--- The ranges of the machine data: document 01, "Machine data", and W1.
+-- The ranges of the machine data: document 01, "Machine data", W1 and W3.
 use Prim.Native.Nat.{ℕ}
 use mathlib.Core.List.{List, [], _∷_, _++_}
 use mathlib.Core.Bool.{Bool, cond, _&&_}
@@ -7,9 +7,9 @@ use lib.Signed.{leZ}
 use lib.Dec.{leb, ltb}
 use Rattle.ranges.specs.declared.Range.{Range}
 
--- "51 data, numbers 0 to 50"; W1: "the list head then says 67". How many data the longest list has
+-- "51 data, numbers 0 to 50"; W1: "the list head then says 67"; W3: data 67 and 68 "are added". How many data the longest list has
 abbrev pub dataCount : ℕ
-dataCount = 67
+dataCount = 69
 
 -- a row of the table: the data up to number `last`, from the row before on
 pub record Row : Type 0 where
@@ -65,9 +65,13 @@ baseRows =
 abbrev pub gearRows : List Row
 gearRows = to 58 (pos 1) 1_000 ∷ to 66 (pos 1) 1_000 ∷ []
 
+-- W3: the hysteresis and the filter of n<nx, "Data 67 (0 to 1,000,000 mm/min) and 68 (0 to 1,000 cycles)"
+abbrev pub nxRows : List Row
+nxRows = to 67 (pos 0) 1_000_000 ∷ to 68 (pos 0) 1_000 ∷ []
+
 -- the whole table: a list of fewer data has its front
 abbrev pub rows : List Row
-rows = baseRows ++ gearRows
+rows = baseRows ++ gearRows ++ nxRows
 
 -- the row of datum k: the first that goes as far
 abbrev pub rowOf : List Row → ℕ → Row

@@ -4,7 +4,7 @@ ghost use Prim.Native.Nat.{_<_, _≤_};
 ghost use Rattle.ranges.specs.Table.{dataCount, rangeOf, inRange};
 
 // How many data the longest list has.
-pub const DATA: usize = 67;
+pub const DATA: usize = 69;
 
 // The range of a datum, by its ends.
 pub struct Range {
@@ -43,10 +43,10 @@ fn range_to_15(k: usize) -> Range
     }
 }
 
-// The rows behind it, those with many data first.
-fn range_from_16(k: usize) -> Range
+// The other rows of document 01's table, those with many data first.
+fn range_16_to_50(k: usize) -> Range
     requires { ⌜ 16 ≤ k ⌝ }
-    requires { ⌜ k < dataCount ⌝ }
+    requires { ⌜ k < 51 ⌝ }
     ensures { λ r. ⌜ r ≡ rangeOf k ⌝ }
 {
     if k < 24 {
@@ -54,8 +54,6 @@ fn range_from_16(k: usize) -> Range
             low: -100000000,
             high: 100000000,
         }
-    } else if 51 <= k {
-        Range { low: 1, high: 1000 }
     } else if 35 <= k {
         Range { low: 1, high: 100 }
     } else if k < 25 {
@@ -85,15 +83,35 @@ fn range_from_16(k: usize) -> Range
     }
 }
 
-// The rows together, in two halves, so that a list passes few of them for each datum.
+// The rows of the data that requests added.
+fn range_from_51(k: usize) -> Range
+    requires { ⌜ 51 ≤ k ⌝ }
+    requires { ⌜ k < dataCount ⌝ }
+    ensures { λ r. ⌜ r ≡ rangeOf k ⌝ }
+{
+    if k < 67 {
+        Range { low: 1, high: 1000 }
+    } else if k < 68 {
+        Range {
+            low: 0,
+            high: 1000000,
+        }
+    } else {
+        Range { low: 0, high: 1000 }
+    }
+}
+
+// The rows together, in parts, so that a list passes few of them for each datum.
 fn row_of(k: usize) -> Range
     requires { ⌜ k < dataCount ⌝ }
     ensures { λ r. ⌜ r ≡ rangeOf k ⌝ }
 {
     if k < 16 {
         range_to_15(k)
+    } else if k < 51 {
+        range_16_to_50(k)
     } else {
-        range_from_16(k)
+        range_from_51(k)
     }
 }
 

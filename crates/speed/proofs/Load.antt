@@ -1,9 +1,9 @@
 -- Every speed comparison is one of the load's speed, by its value alone; with the ratio 1 to 1 it is document 01's. Assumes nothing.
-use Prim.Native.Nat.{ℕ, _*_, _%_, _<_}
+use Prim.Native.Nat.{ℕ, _*_, _%_, _≤_, _<_}
 use mathlib.Core.Path.{_≡_, refl, sym, ap, _∙_, subst}
 use mathlib.Core.Bool.{Bool, true, false}
 use mathlib.Core.List.{List}
-use native.Mathlib.Nat.{mul-one, mul-assoc, mul-right-comm, mul-pos, mul-lt-mul-of-pos-right, lt-of-mul-lt-mul-right}
+use native.Mathlib.Nat.{mul-one, mul-assoc, mul-right-comm, mul-pos, mul-le-mul-right, mul-lt-mul-of-pos-right, lt-of-mul-lt-mul-right}
 use native.Mathlib.Omega.{arith}
 use borrow.Author.Tests.{lt-ltb, ltb-true, ltb-false}
 use lib.IntN.{ℤ}
@@ -12,8 +12,8 @@ use Rattle.machine_data.specs.declared.Ratio.{Ratio}
 use Rattle.machine_data.specs.Data.{numberOf, ratioOf}
 use Rattle.machine_data.proofs.Bounds.{between, cycle}
 use Rattle.speed.specs.declared.Step.{Step}
-use Rattle.speed.specs.Speed.{speedOf, tooFast, slower}
-use Rattle.speed.specs.Load.{Fraction, below, loadSpeed, sgSpeed, datumSpeed}
+use Rattle.speed.specs.Speed.{speedOf, loadStep, loadTime, tooFast, slowerThan}
+use Rattle.speed.specs.Load.{Fraction, below, loadSpeed, sgSpeed, wholeSpeed}
 
 -- ---- a comparison of fractions goes by their values
 
@@ -63,9 +63,14 @@ module _ (d : List ℤ) (s : Step) where
   unfolding tooFast
   too-fast-load n o = ap (ltb (speedOf d n o * loadSpeed d s .under)) (sym (mul-assoc (s .moved * s .ratio .numerator) 60 100) ∙ ap (λ (x : ℕ). x * 100) scaled)
 
-  pub slower-load : (k : ℕ) → slower d s k ≡ below (loadSpeed d s) (datumSpeed d k)
-  unfolding slower
-  slower-load k = ap (λ (x : ℕ). ltb x (numberOf d k * loadSpeed d s .under)) (scaled ∙ sym (mul-one (loadSpeed d s .top)))
+  pub slower-load : (v : ℕ) → slowerThan d s v ≡ below (loadSpeed d s) (wholeSpeed v)
+  unfolding slowerThan
+  slower-load v = ap (λ (x : ℕ). ltb x (v * loadSpeed d s .under)) (scaled ∙ sym (mul-one (loadSpeed d s .top)))
+
+-- what is below a speed is below every greater one
+pub slower-more : (d : List ℤ) (s : Step) (v w : ℕ) → v ≤ w → slowerThan d s v ≡ true → slowerThan d s w ≡ true
+unfolding slowerThan
+slower-more d s v w h t = lt-ltb (loadStep s * 60) (w * loadTime d s) (omega (arith, ltb-true (loadStep s * 60) (v * loadTime d s) t, mul-le-mul-right (loadTime d s) h))
 
 -- the lower number of each is above 0
 pub ratio-under : (d : List ℤ) (g : ℕ) → 0 < ratioOf d g .denominator
@@ -97,12 +102,12 @@ module _ (d : List ℤ) (moved : ℕ) (r q : Ratio) (ur : 0 < r .denominator) (u
       ∙ same-above (loadSpeed d (with-ratio r)) (loadSpeed d (with-ratio q)) (sgSpeed d n o) (load-under d (with-ratio r) ur) (load-under d (with-ratio q) uq) one-speed
       ∙ sym (too-fast-load d (with-ratio q) n o)
 
-  pub same-slower : (k : ℕ) → slower d (record { moved = moved; ratio = r }) k ≡ slower d (record { moved = moved; ratio = q }) k
+  pub same-slower : (v : ℕ) → slowerThan d (record { moved = moved; ratio = r }) v ≡ slowerThan d (record { moved = moved; ratio = q }) v
   unfolding with-ratio
-  same-slower k =
-      slower-load d (with-ratio r) k
-      ∙ same-below (loadSpeed d (with-ratio r)) (loadSpeed d (with-ratio q)) (datumSpeed d k) (load-under d (with-ratio r) ur) (load-under d (with-ratio q) uq) one-speed
-      ∙ sym (slower-load d (with-ratio q) k)
+  same-slower v =
+      slower-load d (with-ratio r) v
+      ∙ same-below (loadSpeed d (with-ratio r)) (loadSpeed d (with-ratio q)) (wholeSpeed v) (load-under d (with-ratio r) ur) (load-under d (with-ratio q) uq) one-speed
+      ∙ sym (slower-load d (with-ratio q) v)
 
 -- ---- with the ratio 1 to 1, document 01's comparisons
 
@@ -115,7 +120,7 @@ module _ (d : List ℤ) (moved : ℕ) where
   unfolding tooFast
   too-fast-plain n o = λ i. ltb (speedOf d n o * mul-one (numberOf d 0) i) (mul-one moved i * 6000)
 
-  -- "|d| × 60 < datum 33 × T", and the same of datum 25
-  pub slower-plain : (k : ℕ) → slower d (record { moved = moved; ratio = oneToOne }) k ≡ ltb (moved * 60) (numberOf d k * numberOf d 0)
-  unfolding slower
-  slower-plain k = λ i. ltb (mul-one moved i * 60) (numberOf d k * mul-one (numberOf d 0) i)
+  -- "|d| × 60 < datum 33 × T", and the same of any speed
+  pub slower-plain : (v : ℕ) → slowerThan d (record { moved = moved; ratio = oneToOne }) v ≡ ltb (moved * 60) (v * numberOf d 0)
+  unfolding slowerThan
+  slower-plain v = λ i. ltb (mul-one moved i * 60) (v * mul-one (numberOf d 0) i)

@@ -35,6 +35,6 @@ loadSpeed d s = times (axisSpeed d (s .moved)) (s .ratio)
 abbrev pub sgSpeed : List ℤ → ℕ → ℕ → Fraction
 sgSpeed d n o = record { top = speedOf d n o; under = 100 }
 
--- nx or the shutdown speed, datum k
-abbrev pub datumSpeed : List ℤ → ℕ → Fraction
-datumSpeed d k = record { top = numberOf d k; under = 1 }
+-- nx, nx with its hysteresis, or the shutdown speed
+abbrev pub wholeSpeed : ℕ → Fraction
+wholeSpeed v = record { top = v; under = 1 }

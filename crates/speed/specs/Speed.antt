@@ -1,4 +1,4 @@
--- Comparisons of speeds: document 01, steps 3 to 6, and W1. A step is |d| in µm a cycle, a speed in mm/min, T in ms.
+-- Comparisons of speeds: document 01, steps 3 to 6, W1 and W3. A step is |d| in µm a cycle, a speed in mm/min, T in ms.
 use Prim.Native.Nat.{ℕ, _+_, _*_, _%_}
 use mathlib.Core.Bool.{Bool, cond}
 use mathlib.Core.List.{List}
@@ -26,6 +26,10 @@ loadTime d s = numberOf d 0 * s .ratio .denominator
 unfoldable pub tooFast : List ℤ → Step → ℕ → ℕ → Bool
 tooFast d s n o = ltb (speedOf d n o * loadTime d s) (loadStep s * 6000)
 
--- "|d| × 60 < datum 33 × T", and the same of datum 25, W1: "nx and shutdown"
-unfoldable pub slower : List ℤ → Step → ℕ → Bool
-slower d s k = ltb (loadStep s * 60) (numberOf d k * loadTime d s)
+-- "|d| × 60 < datum 33 × T", of any speed v in place of datum 33, W1: "nx and shutdown"
+unfoldable pub slowerThan : List ℤ → Step → ℕ → Bool
+slowerThan d s v = ltb (loadStep s * 60) (v * loadTime d s)
+
+-- of the speed that is datum k
+abbrev pub slower : List ℤ → Step → ℕ → Bool
+slower d s k = slowerThan d s (numberOf d k)

@@ -1,7 +1,7 @@
 // Speeds compared without a division: a step in a cycle, times its gear's ratio, against a speed times the cycle's length.
 ghost use mathlib.Core.Path.{_≡_};
 ghost use Prim.Native.Nat.{_≤_};
-ghost use Rattle.speed.specs.Speed.{percentOf, speedOf, loadStep, loadTime, tooFast, slower};
+ghost use Rattle.speed.specs.Speed.{percentOf, speedOf, loadStep, loadTime, tooFast, slowerThan, slower};
 use machine_data::Ratio;
 use machine_data::Values;
 use machine_data::numbers;
@@ -61,9 +61,16 @@ pub fn too_fast(values: &Values, step: Step, sg: Sg) -> bool
     sg_speed(values, sg) * load_time(values, step) < load_step(step) * 6000
 }
 
-// Whether a step is below the speed that is datum k.
+// Whether a step is below a speed.
+pub fn slower_than(values: &Values, step: Step, speed: u32) -> bool
+    ensures { λ r. ⌜ r ≡ slowerThan (now (values .entry)) step speed ⌝ }
+{
+    load_step(step) * 60 < (speed as u64) * load_time(values, step)
+}
+
+// Whether it is below the speed that is datum k.
 pub fn slower(values: &Values, step: Step, k: usize) -> bool
     ensures { λ r. ⌜ r ≡ slower (now (values .entry)) step k ⌝ }
 {
-    load_step(step) * 60 < machine_data::number(values, k) * load_time(values, step)
+    slower_than(values, step, machine_data::number(values, k) as u32)
 }

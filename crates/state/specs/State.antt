@@ -1,4 +1,4 @@
--- A fresh channel's state: document 01, "Safe inputs and reports".
+-- A fresh channel's state: document 01, "Safe inputs and reports", and W3.
 use mathlib.Core.Bool.{false}
 use lib.IntN.{pos}
 use Rattle.distance.specs.declared.Previous.the-variants.{Absent}
@@ -6,7 +6,7 @@ use Rattle.selection.specs.declared.Selection.the-variants.{Nothing}
 use Rattle.stop.specs.declared.Stop.the-variants.{Free}
 use Rattle.state.specs.declared.State.{State}
 
--- "A fresh channel has rank 0, nothing effective, F off, no previous position, and all counts and runs 0"; "k starts at 0"; cams "fresh 0"
+-- "A fresh channel has rank 0, nothing effective, F off, no previous position, and all counts and runs 0"; "k starts at 0"; cams "fresh 0"; W3, of n<nx: "fresh 0"
 abbrev pub freshState : State
 freshState =
     record {
@@ -17,6 +17,7 @@ freshState =
             choice = record { chosen = false; effective = Nothing; reference = pos 0; left = 0 };
             differing = 0;
             fault = record { on = false; left = 0 };
+            nx = record { run = 0; on = false };
           };
       stop = Free;
       previous = Absent;

@@ -4,6 +4,7 @@ ghost use Rattle.state.specs.State.{freshState};
 use comparison::Fault;
 use distance::Previous;
 use inputs::Reading;
+use nx_signal::Signal;
 use report::Report;
 use selection::Choice;
 use selection::Selection;
@@ -17,6 +18,8 @@ pub struct Kept {
     // usable cycles running in which the input words differ
     pub differing: u32,
     pub fault: Fault,
+    // n<nx, worked out while its function is off too
+    pub nx: Signal,
 }
 
 // What a cycle changes. The previous position stands last: behind it a choice, which a cycle reads as one word, would be
@@ -52,6 +55,7 @@ impl State {
                 },
                 differing: 0,
                 fault: Fault { on: false, left: 0 },
+                nx: Signal { run: 0, on: false },
             },
             stop: Stop::Free,
             previous: Previous::Absent,

@@ -5,7 +5,9 @@ use Rattle.words.specs.Words
 use Rattle.records.specs.Records
 use Rattle.inputs.specs.Usable
 use Rattle.report.specs.Report
+use Rattle.runs.specs.Run
 use Rattle.speed.specs.Speed
+use Rattle.nx_signal.specs.Signal
 use Rattle.selection.specs.Selection
 use Rattle.stop.specs.Stop
 use Rattle.comparison.specs.Comparison
@@ -19,16 +21,16 @@ use Rattle.judge.specs.Causes
 use Rattle.channel.specs.Cycle
 use Rattle.channel.specs.Word
 use Rattle.device.specs.Device
-use Rattle.log.specs.Run
+use Rattle.log.specs.Run as LogRun
 use Rattle.demand_3.specs.Calls
 use Rattle.demand_3.specs.History
 use Rattle.demand_3.proofs.Answered
 use Rattle.worked.specs.Runs
 
 unfoldable pub the-cycle : Unit {0}
-unfolding Bits.bitOf Bits.fieldOf Data.nearest Data.datumOf Data.numberOf Data.functionOf Data.ratioOf Usable.bitsUsable Usable.usableOf Speed.percentOf Speed.speedOf Speed.tooFast Speed.slower Selection.selectedOf Selection.stricter Selection.choiceNext Stop.stopNext Comparison.positionDiffers Comparison.runOf Comparison.inputsDiffer Report.datumDiffers Comparison.faultNext Comparison.expired Active.active Active.faultStops Cams.camOf Cams.camsUpTo Rows.strongestOf Rows.freshOf Codes.wanted Limits.standstillLeft Limits.outside Limits.external Causes.choiceIn Causes.differingIn Causes.differencesIn Causes.faultIn Causes.usableRows Causes.rowsOf Cycle.strongestIn Cycle.clearsIn Cycle.enteredIn Cycle.next ChannelWord.wordBy Word.word Device.wordRank Device.deviceRank Device.deviceOf History.givensOf History.history Runs.listOf Runs.cyclesWith
+unfolding Bits.bitOf Bits.fieldOf Data.nearest Data.datumOf Data.numberOf Data.functionOf Data.ratioOf Usable.bitsUsable Usable.usableOf Speed.percentOf Speed.speedOf Speed.tooFast Speed.slowerThan Run.runNext Signal.released Signal.valueNext Signal.belowRun Selection.selectedOf Selection.stricter Selection.choiceNext Stop.stopNext Comparison.positionDiffers Comparison.runOf Comparison.inputsDiffer Report.datumDiffers Comparison.faultNext Comparison.expired Active.active Active.faultStops Cams.camOf Cams.camsUpTo Rows.strongestOf Rows.freshOf Codes.wanted Limits.standstillLeft Limits.outside Limits.external Causes.choiceIn Causes.differingIn Causes.differencesIn Causes.faultIn Causes.usableRows Causes.rowsOf Cycle.strongestIn Cycle.clearsIn Cycle.enteredIn Cycle.next ChannelWord.wordBy Word.word Device.wordRank Device.deviceRank Device.deviceOf History.givensOf History.history Runs.listOf Runs.cyclesWith
 the-cycle = tt
 
 unfoldable pub the-calls : Unit {0}
-unfolding the-cycle Words.twos Words.datumWord Words.wordOf Words.wordAt Records.inputsAt Records.endingAt Records.otherAt Records.entryAt Records.logFrom Run.deviceCycle Run.lastOf Run.linesOf Run.ranOf Calls.wordsFrom Answered.answer Answered.answered
+unfolding the-cycle Words.twos Words.datumWord Words.wordOf Words.wordAt Records.inputsAt Records.endingAt Records.otherAt Records.entryAt Records.logFrom LogRun.deviceCycle LogRun.lastOf LogRun.linesOf LogRun.ranOf Calls.wordsFrom Answered.answer Answered.answered
 the-calls = tt

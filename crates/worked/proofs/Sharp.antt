@@ -3,6 +3,7 @@ use mathlib.Core.Path.{_≡_, refl, subst}
 use mathlib.Core.List.{[], _∷_}
 use Rattle.channel.specs.Cycle.{freshChannel}
 use Rattle.demand_3.specs.Calls.{Answers}
+use Rattle.runs.specs.Running
 use Rattle.demand_3.specs.Claims
 use Rattle.demand_3.proofs.Answered.{answered}
 use Rattle.worked.specs.Sharp.{list, nxAlone, moving, leaving, differing, deselected, lowering, calls, words, Sharp}
@@ -14,7 +15,7 @@ unfolding the-calls list moving calls
 given = refl
 
 pub sharp : Sharp
-unfolding the-cycle Claims.causeOf Claims.usableBefore list nxAlone moving leaving differing deselected lowering
+unfolding the-cycle Claims.causeOf Running.usableBefore list nxAlone moving leaving differing deselected lowering
 sharp =
     record {
       overstepped-1 = (refl, refl);

@@ -24,6 +24,7 @@ use Rattle.device.specs.Device.{deviceOf}
 use Rattle.demand_3.specs.Calls
 use Rattle.demand_3.specs.Calls.{Call, as-b, Words, Answers}
 use Rattle.demand_3.specs.History.{history}
+use Rattle.runs.specs.Running.{window}
 use Rattle.demand_3.specs.Claims
 use Rattle.demand_3.specs.Claims.{rankInWord, rankInDevice}
 use Rattle.worked.specs.Runs.{is, listOf, alike, positionsApart, cyclesWith}
@@ -138,5 +139,5 @@ pub record Sharp : Type 0 where
   pub inactive-in-7 : (fault list deselected 7 ≡ record { on = true; left = 0 }) × (effective list deselected 7 ≡ Nothing) × (rankInDevice (device list deselected 7) ≡ 0)
   pub active-in-8 : (effective list deselected 8 ≡ Sg 0 0) × (causeIn list deselected 8 13 .stands ≡ true) × (rankInDevice (device list deselected 8) ≡ 4)
   -- the delay is 2: SBH, selected in 1 and 2, is not yet effective in 2
-  pub selected-1 : (numberOf (list .values) 27 ≡ 2) × (Claims.window (λ i. list) (cs list lowering) 3 2 ≡ 3 ∷ 2 ∷ 1 ∷ [])
+  pub selected-1 : (numberOf (list .values) 27 ≡ 2) × (window (Claims.usableIn (λ i. list) (cs list lowering)) 3 2 ≡ 3 ∷ 2 ∷ 1 ∷ [])
   pub bound-in-3 : (effective list lowering 2 ≡ Nothing) × (effective list lowering 3 ≡ Sbh)

@@ -6,14 +6,11 @@ use Rattle.advance.proofs.found.Tie as tie
 usable-requires : tie.Need-usable-requires
 usable-requires c κs = search needs
 
-below-nx-requires : tie.Need-below-nx-requires
-below-nx-requires c κs = search needs
-
 word-requires : tie.Need-word-requires
 word-requires c κs = search needs
 
 returns : tie.Need-returns
-returns c = simp (c .word .ensures, c .before .below-nx .ensures, c .before .before .usable .ensures)
+returns c = simp (c .word .ensures, c .before .before .before .usable .ensures)
 
 pub found-spec : {M : Type 1} → statement M
-found-spec = tie.close (tie.spec usable-requires below-nx-requires word-requires returns)
+found-spec = tie.close (tie.spec usable-requires word-requires returns)

@@ -59,6 +59,15 @@ yes-requires-2 c κs = search needs
 element-copy-out-t41 : tie.Need-element-copy-out-t41
 element-copy-out-t41 c = search needs
 
+element-copy-out-t45 : tie.Need-element-copy-out-t45
+element-copy-out-t45 c = search needs
+
+element-copy-out-yes-3 : tie.Need-element-copy-out-yes-3
+element-copy-out-yes-3 c = search needs
+
+yes-requires-3 : tie.Need-yes-requires-3
+yes-requires-3 c κs = search needs
+
 element-copy-out-stop-from : tie.Need-element-copy-out-stop-from
 element-copy-out-stop-from c = search needs
 
@@ -82,7 +91,7 @@ previous-from-requires c κs = search needs
 
 returns : tie.Need-returns
 unfolding stateFrom
-returns c = let w = now (c .before .before .before .before .before .before .before .before .before .before .before .before .before .before .before .before .before .before .before .before .before .before .args .words) in let signed = c .before .before .before .before .before .before .before .before .before .before .before .before .signed in let f : SFits w32 (signed .result) = search needs in λ i.
+returns c = let w = now (c .before .before .before .before .before .before .before .before .before .before .before .before .before .before .before .before .before .before .before .before .before .before .before .before .before .args .words) in let signed = c .before .before .before .before .before .before .before .before .before .before .before .before .before .before .before .signed in let f : SFits w32 (signed .result) = search needs in λ i.
     record {
       k = getD w 1 0 % 256;
       kept =
@@ -90,13 +99,14 @@ returns c = let w = now (c .before .before .before .before .before .before .befo
             cams = getD w 16 0;
             choice =
                 record {
-                  chosen = c .before .before .before .before .before .before .before .before .before .before .before .before .before .before .before .before .before .before .yes .ensures i;
-                  effective = c .before .before .before .before .before .before .before .before .before .before .before .before .before .before .selection-from .ensures i;
+                  chosen = c .before .before .before .before .before .before .before .before .before .before .before .before .before .before .before .before .before .before .before .before .before .yes .ensures i;
+                  effective = c .before .before .before .before .before .before .before .before .before .before .before .before .before .before .before .before .before .selection-from .ensures i;
                   reference = (toZ-ofZ f ∙ signed .ensures) i;
                   left = getD w 9 0;
                 };
             differing = getD w 10 0;
-            fault = record { on = c .before .before .before .before .before .before .before .before .yes2 .ensures i; left = getD w 12 0 };
+            fault = record { on = c .before .before .before .before .before .before .before .before .before .before .before .yes2 .ensures i; left = getD w 12 0 };
+            nx = record { run = getD w 18 0; on = c .before .before .before .before .before .before .before .yes3 .ensures i };
           };
       stop = c .before .before .before .stop-from .ensures i;
       previous = c .previous-from .ensures i;
@@ -122,6 +132,9 @@ state-from-spec =
     element-copy-out-yes-2
     yes-requires-2
     element-copy-out-t41
+    element-copy-out-t45
+    element-copy-out-yes-3
+    yes-requires-3
     element-copy-out-stop-from
     element-copy-out-stop-from-2
     element-copy-out-stop-from-3

@@ -18,11 +18,11 @@ selection-words-requires c κs = search needs
 stop-words-requires : tie.Need-stop-words-requires
 stop-words-requires c κs = search needs
 
-cast-t13 : tie.Need-cast-t13
-cast-t13 c = search needs
-
 cast-t14 : tie.Need-cast-t14
 cast-t14 c = search needs
+
+cast-t15 : tie.Need-cast-t15
+cast-t15 c = search needs
 
 yes-word-requires : tie.Need-yes-word-requires
 yes-word-requires c κs = search needs
@@ -33,11 +33,14 @@ unsigned-requires c κs = search needs
 yes-word-requires-2 : tie.Need-yes-word-requires-2
 yes-word-requires-2 c κs = search needs
 
+yes-word-requires-3 : tie.Need-yes-word-requires-3
+yes-word-requires-3 c κs = search needs
+
 returns : tie.Need-returns
 unfolding stateWords
-returns c = let a = c .before .before .before .before .before .before .before .before .before .before .before .args in let f : SFits w32 (a .state .kept .choice .reference) = search needs in
-    let fits : Fits (a .state) = record { k = search needs; effective = c .before .before .before .before .before .before .selection-words .ensures .1; reference = is-signed _ f; stop = c .before .before .before .before .before .stop-words .ensures .1; previous = c .before .before .before .before .before .before .before .previous-words .ensures .1 } in
-    written (a .count) (a .state) fits (simp (c .before .before .before .before .before .before .before .previous-words .ensures .0, c .before .before .before .yes-word .ensures, c .before .before .before .before .before .before .selection-words .ensures .0, c .before .unsigned .ensures, c .yes-word2 .ensures, c .before .before .before .before .before .stop-words .ensures .0, toZ-ofZ f))
+returns c = let a = c .before .before .before .before .before .before .before .before .before .before .before .before .before .args in let f : SFits w32 (a .state .kept .choice .reference) = search needs in
+    let fits : Fits (a .state) = record { k = search needs; effective = c .before .before .before .before .before .before .before .selection-words .ensures .1; reference = is-signed _ f; stop = c .before .before .before .before .before .before .stop-words .ensures .1; previous = c .before .before .before .before .before .before .before .before .previous-words .ensures .1 } in
+    written (a .count) (a .state) fits (simp (c .before .before .before .before .before .before .before .before .previous-words .ensures .0, c .before .before .before .before .yes-word .ensures, c .before .before .before .before .before .before .before .selection-words .ensures .0, c .before .before .unsigned .ensures, c .before .yes-word2 .ensures, c .yes-word3 .ensures, c .before .before .before .before .before .before .stop-words .ensures .0, toZ-ofZ f))
 
 pub words-of-spec : {M : Type 1} → statement M
 words-of-spec =
@@ -46,9 +49,10 @@ words-of-spec =
     previous-words-requires
     selection-words-requires
     stop-words-requires
-    cast-t13
     cast-t14
+    cast-t15
     yes-word-requires
     unsigned-requires
     yes-word-requires-2
+    yes-word-requires-3
     returns)

@@ -1,39 +1,25 @@
--- `speed::slower` meets its contract: both products fit, whatever the datum. Assumes nothing.
+-- `speed::slower` meets its contract: every datum fits 32 bits. Assumes nothing.
+use mathlib.Core.Path.{_∙_, ap}
+use Prim.Native.Nat.{ℕ}
 use native.Mathlib.Omega.{arith}
-use Rattle.speed.specs.Speed.{slower}
 use Rattle.machine_data.proofs.Bounds.{number-most}
-use Rattle.speed.proofs.Bounds.{product-fits}
+use Rattle.speed.specs.Speed.{slowerThan}
 use borrow.Author.Needs.{needs}
 use Rattle.speed.proofs.slower.Statement.{statement}
 use Rattle.speed.proofs.slower.Tie as tie
 
-load-step-requires : tie.Need-load-step-requires
-load-step-requires c κs = search needs
-
-mul-result : tie.Need-mul-result
-mul-result c = search needs
-
 number-requires : tie.Need-number-requires
 number-requires c κs = search needs
 
-load-time-requires : tie.Need-load-time-requires
-load-time-requires c κs = search needs
+cast-slower-than : tie.Need-cast-slower-than
+cast-slower-than c = let s = c .before .args in omega (arith, c .number .ensures, number-most (s .values .now) (s .k))
 
-mul-result-2 : tie.Need-mul-result-2
-mul-result-2 c = let s = c .before .before .before .args in
-    product-fits (omega (arith, c .before .number .ensures, number-most (s .values .now) (s .k))) (omega (arith, c .load-time .ensures .1))
+slower-than-requires : tie.Need-slower-than-requires
+slower-than-requires c κs = search needs
 
 returns : tie.Need-returns
-unfolding slower
-returns c = simp (c .before .before .load-step .ensures .0, c .before .number .ensures, c .load-time .ensures .0)
+returns c = let s = c .before .before .args in
+    c .slower-than .ensures ∙ ap (λ (v : ℕ). slowerThan (s .values .now) (s .step) v) (c .before .number .ensures)
 
 pub slower-spec : {M : Type 1} → statement M
-slower-spec =
-    tie.close
-    (tie.spec
-    load-step-requires
-    mul-result
-    number-requires
-    load-time-requires
-    mul-result-2
-    returns)
+slower-spec = tie.close (tie.spec number-requires cast-slower-than slower-than-requires returns)

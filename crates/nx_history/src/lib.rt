@@ -1,0 +1,1 @@
+// When n<nx is shown, over every list of calls: a theorem, and no function.

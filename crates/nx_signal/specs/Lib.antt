@@ -1,0 +1,2 @@
+pub mod Signal
+pub mod Since

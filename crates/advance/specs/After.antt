@@ -13,7 +13,6 @@ use Rattle.stop.specs.Stop.{stopNext}
 use Rattle.comparison.specs.Comparison.{clearedFault}
 use Rattle.cams.specs.Cams.{camsNext}
 use Rattle.causes.specs.declared.Summary.{Summary}
-use Rattle.nx_signal.specs.Signal.{signalNext}
 use Rattle.channel_word.specs.Word.{wordBy}
 use Rattle.state.specs.declared.State.{State}
 use Rattle.state.specs.declared.Given.{Given}
@@ -36,7 +35,7 @@ usableNext m s g f clears strongest =
             choice = f .choice;
             differing = f .differing;
             fault = clearedFault clears (f .fault);
-            nx = signalNext (m .values) (f .step) (s .kept .nx);
+            nx = f .nx;
           };
       stop = stopNext (m .values) clears strongest (slower (m .values) (f .step) 33) (g .reading .position) (s .stop);
       previous = At (g .reading .position);

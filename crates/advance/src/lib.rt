@@ -38,7 +38,7 @@ fn usable(values: &Values, count: usize, state: State, given: Given, findings: F
     let choice = findings.choice;
     let fault = findings.fault;
     let summary = findings.summary;
-    let nx = kept.nx;
+    let nx = findings.nx;
     let strongest = summary.strongest;
     let clears = clears(given, summary);
     let after = stop.next(values, clears, strongest, findings.step, reading);
@@ -49,7 +49,7 @@ fn usable(values: &Values, count: usize, state: State, given: Given, findings: F
             choice,
             differing: findings.differing,
             fault: fault.cleared(clears),
-            nx: nx.next(values, findings.step),
+            nx,
         },
         stop: after,
         previous: Previous::At(reading.position),

@@ -6,6 +6,7 @@ use Rattle.stop.specs.declared.Stop.the-variants.{Cancelled}
 use Rattle.distance.specs.declared.Previous.the-variants.{Absent}
 use Rattle.inputs.specs.Usable.{usableOf}
 use Rattle.speed.specs.declared.Step.{Step}
+use Rattle.nx_signal.specs.Signal.{signalNext}
 use Rattle.comparison.specs.Comparison.{faultNext}
 use Rattle.causes.specs.Causes.{summaryOf, strongestOf, freshOf}
 use Rattle.state.specs.declared.State.{State}
@@ -81,7 +82,7 @@ module _ (p q : Rules) (m : MachineData) (s : State) (g : Given) where
       usable-rows-same = λ i. table (m .values) (s .stop) (g .reading) (choiceIn m s g) (step-same i) (differences-same i) (stops-same i)
 
       findings-same : findingsUnder p m s g ≡ findingsUnder q m s g
-      findings-same = λ i. record { step = step-same i; choice = choiceIn m s g; differing = differingIn s g; fault = fault-same i; rows = usable-rows-same i; summary = summaryOf (usable-rows-same i) }
+      findings-same = λ i. record { step = step-same i; nx = signalNext (m .values) (step-same i) (s .kept .nx); choice = choiceIn m s g; differing = differingIn s g; fault = fault-same i; rows = usable-rows-same i; summary = summaryOf (usable-rows-same i) }
 
     -- the causes
     pub rows-same : rowsUnder p m s g ≡ rowsUnder q m s g

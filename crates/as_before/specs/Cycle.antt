@@ -8,6 +8,7 @@ use Rattle.machine_data.specs.declared.MachineData.{MachineData}
 use Rattle.distance.specs.declared.Previous.the-variants.{Absent}
 use Rattle.distance.specs.Step.{movedFrom}
 use Rattle.speed.specs.declared.Step.{Step}
+use Rattle.nx_signal.specs.Signal.{signalNext}
 use Rattle.rank.specs.declared.Rank.the-variants as R
 use Rattle.stop.specs.declared.Stop.the-variants.{Cancelled}
 use Rattle.comparison.specs.declared.Fault.{Fault}
@@ -54,6 +55,7 @@ module _ (rules : Rules) (m : MachineData) (s : State) (g : Given) where
   findingsUnder =
       record {
         step = stepUnder;
+        nx = signalNext (m .values) stepUnder (s .kept .nx);
         choice = choiceIn m s g;
         differing = differingIn s g;
         fault = faultUnder;

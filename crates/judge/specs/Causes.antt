@@ -11,6 +11,8 @@ use Rattle.inputs.specs.declared.External as X
 use Rattle.inputs.specs.Usable.{usableOf, ratioIn}
 use Rattle.report.specs.Report.{datumDiffers}
 use Rattle.speed.specs.declared.Step.{Step}
+use Rattle.nx_signal.specs.declared.Signal.{Signal}
+use Rattle.nx_signal.specs.Signal.{signalNext}
 use Rattle.limits.specs.Limits.{standstillLeft, overSpeed, sgRank, outside, seRank, external, holdLeft}
 use Rattle.selection.specs.declared.Choice.{Choice}
 use Rattle.selection.specs.Selection.{selectedOf, choiceNext}
@@ -32,6 +34,10 @@ stepOf d previous r = record { moved = movedFrom previous (r .position); ratio =
 
 abbrev pub stepIn : MachineData → State → Given → Step
 stepIn m s g = stepOf (m .values) (s .previous) (g .reading)
+
+-- W3: n<nx, by this cycle's step
+abbrev pub signalIn : MachineData → State → Given → Signal
+signalIn m s g = signalNext (m .values) (stepIn m s g) (s .kept .nx)
 
 -- step 3: the choice that this cycle's selection makes
 unfoldable pub choiceIn : MachineData → State → Given → Choice
@@ -96,11 +102,12 @@ usableRows m s g =
 unfoldable pub rowsOf : MachineData → State → Given → List Cause
 rowsOf m s g = cond (usableOf m (g .reading)) (usableRows m s g) (cause 1 true R.A ∷ [])
 
--- what steps 2 to 4 come to in a usable cycle
+-- what steps 2 to 4 come to in a usable cycle, and n<nx
 abbrev pub findingsOf : MachineData → State → Given → Findings
 findingsOf m s g =
     record {
       step = stepIn m s g;
+      nx = signalIn m s g;
       choice = choiceIn m s g;
       differing = differingIn s g;
       fault = faultIn m s g;

@@ -10,6 +10,7 @@ use distance::Previous;
 use inputs::External;
 use inputs::Reading;
 use machine_data::Values;
+use nx_signal::Signal;
 use rank::Rank;
 use selection::Choice;
 use speed::Step;
@@ -17,9 +18,11 @@ use state::Given;
 use state::State;
 use stop::Stop;
 
-// What steps 2 to 4 come to: the step, what this cycle leaves of the choice, the run and F, the causes, and what step 5 asks of them.
+// What steps 2 to 4 come to: the step, what this cycle leaves of n<nx, the choice, the run and F, the causes, and what step 5 asks
+// of them. n<nx stands here, though it is of step 6, so that the step's products, which the causes need too, are worked out once.
 pub struct Findings {
     pub step: Step,
+    pub nx: Signal,
     pub choice: Choice,
     pub differing: u32,
     pub fault: Fault,
@@ -145,7 +148,9 @@ pub fn judge(values: &Values, count: usize, state: State, given: Given) -> Findi
     let before = kept.choice;
     let fault = kept.fault;
     let stop = state.stop;
+    let signal = kept.nx;
     let step = step_of(values, previous, reading);
+    let nx = signal.next(values, step);
     let choice = before.next(values, selection::selected(values, reading.inputs), reading);
     let differing = comparison::run(kept.differing, reading, report);
     let differs = Differences {
@@ -166,6 +171,7 @@ pub fn judge(values: &Values, count: usize, state: State, given: Given) -> Findi
     );
     Findings {
         step,
+        nx,
         choice,
         differing,
         fault: after,

@@ -1,2 +1,3 @@
 pub mod Steady
 pub mod Since
+pub mod Cases

@@ -1,6 +1,6 @@
 -- The signal n<nx with its hysteresis and its filter: W3, which calls it the door lamp. Speeds are compared as W1 has it, by the load's step.
 use Prim.Native.Nat.{ℕ, _+_}
-use mathlib.Core.Bool.{Bool, true, false, not, cond}
+use mathlib.Core.Bool.{Bool, true, false, not, cond, _&&_, _||_}
 use mathlib.Core.List.{List}
 use lib.IntN.{ℤ}
 use lib.Dec.{ltb}
@@ -27,3 +27,11 @@ belowRun d step before = runNext (slower d step 25) before
 abbrev pub signalNext : List ℤ → Step → Signal → Signal
 signalNext d step s =
     record { run = belowRun d step (s .run); on = valueNext d step (belowRun d step (s .run)) (s .on) }
+
+-- ---- by cases, as the code has them: below nx, and at nx or above it. proofs/Cases.antt shows that these are the signal above
+
+abbrev pub signalBelow : List ℤ → Signal → Signal
+signalBelow d s = record { run = runNext true (s .run); on = s .on || ltb (numberOf d 68) (runNext true (s .run)) }
+
+abbrev pub signalAbove : List ℤ → Step → Signal → Signal
+signalAbove d step s = record { run = 0; on = s .on && not (released d step) }

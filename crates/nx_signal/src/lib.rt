@@ -1,6 +1,6 @@
 // The signal n<nx: its value, steadied by a hysteresis and a filter.
 ghost use mathlib.Core.Path.{_≡_};
-ghost use Rattle.nx_signal.specs.Signal.{released, valueNext, signalNext};
+ghost use Rattle.nx_signal.specs.Signal.{released, signalBelow, signalAbove, signalNext};
 use machine_data::Values;
 use machine_data::numbers;
 use speed::Step;
@@ -21,16 +21,24 @@ fn released(values: &Values, step: Step) -> bool
 }
 
 impl Signal {
-    // The value after a run of so many cycles: reset, set, or kept.
-    fn value(self, values: &Values, step: Step, run: u32) -> bool
-        ensures { λ r. ⌜ r ≡ valueNext (now (values .entry)) step run (self .on) ⌝ }
+    // Below nx: the run goes on, and the value is set behind the filter, else kept.
+    fn below(self, values: &Values) -> Signal
+        ensures { λ r. ⌜ r ≡ signalBelow (now (values .entry)) self ⌝ }
     {
-        if released(values, step) {
-            false
-        } else if machine_data::cycles(values, numbers::NX_FILTER) < run {
-            true
-        } else {
-            self.on
+        let run = runs::next(self.run, true);
+        Signal {
+            run,
+            on: self.on || machine_data::cycles(values, numbers::NX_FILTER) < run,
+        }
+    }
+
+    // At nx or above it: the run is over, and the value is kept below the hysteresis. One that is 0 stays so, whatever the speed.
+    fn above(self, values: &Values, step: Step) -> Signal
+        ensures { λ r. ⌜ r ≡ signalAbove (now (values .entry)) step self ⌝ }
+    {
+        Signal {
+            run: 0,
+            on: self.on && !released(values, step),
         }
     }
 
@@ -38,10 +46,10 @@ impl Signal {
     pub fn next(self, values: &Values, step: Step) -> Signal
         ensures { λ r. ⌜ r ≡ signalNext (now (values .entry)) step self ⌝ }
     {
-        let run = runs::next(self.run, speed::slower(values, step, numbers::NX));
-        Signal {
-            run,
-            on: self.value(values, step, run),
+        if speed::slower(values, step, numbers::NX) {
+            self.below(values)
+        } else {
+            self.above(values, step)
         }
     }
 }

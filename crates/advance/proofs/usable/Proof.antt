@@ -21,12 +21,9 @@ next-requires-2 c κs = search needs
 cleared-requires : tie.Need-cleared-requires
 cleared-requires c κs = search needs
 
-next-requires-3 : tie.Need-next-requires-3
-next-requires-3 c κs = search needs
-
 returns : tie.Need-returns
-returns c = let fp : SFits w32 (c .before .before .before .before .before .before .before .before .before .before .before .before .before .args .given .reading .position) = search needs in
-    simp (toZ-ofZ fp) (simp (c .before .next3 .ensures, c .before .before .before .next2 .ensures, c .before .before .cleared .ensures, c .before .before .before .before .before .next .ensures, c .before .before .before .before .next-k .ensures, c .before .before .before .before .before .before .clears .ensures))
+returns c = let fp : SFits w32 (c .before .before .before .before .before .before .before .before .before .before .before .before .args .given .reading .position) = search needs in
+    simp (toZ-ofZ fp) (simp (c .before .before .next2 .ensures, c .before .cleared .ensures, c .before .before .before .before .next .ensures, c .before .before .before .next-k .ensures, c .before .before .before .before .before .clears .ensures))
 
 pub usable-spec : {M : Type 1} → statement M
 usable-spec =
@@ -37,5 +34,4 @@ usable-spec =
     next-k-requires
     next-requires-2
     cleared-requires
-    next-requires-3
     returns)

@@ -1,30 +1,26 @@
--- `nx_signal::Signal::next` meets its contract. Assumes nothing.
-use mathlib.Core.Path.{_≡_, _∙_, ap}
-use mathlib.Core.Bool.{Bool}
-use Prim.Native.Nat.{ℕ}
+-- `nx_signal::Signal::next` meets its contract, by the two cases of the speed. Assumes nothing.
+use mathlib.Core.Path.{sym, _∙_}
 use borrow.Author.Needs.{needs}
-use Rattle.runs.specs.Run.{runNext}
-use Rattle.nx_signal.specs.Signal.{belowRun, valueNext}
+use Rattle.nx_signal.proofs.Cases.{below-is, above-is}
 use Rattle.nx_signal.proofs.Signal.next.Statement.{statement}
 use Rattle.nx_signal.proofs.Signal.next.Tie as tie
 
 slower-requires : tie.Need-slower-requires
 slower-requires c κs = search needs
 
-next-requires : tie.Need-next-requires
-next-requires c κs = search needs
+below-requires : tie.Need-below-requires
+below-requires c κs = search needs
 
-value-requires : tie.Need-value-requires
-value-requires c κs = search needs
-
-counted : (c : tie.After-next) → c .next .result ≡ belowRun (c .before .before .args .values .now) (c .before .before .args .step) (c .before .before .args .self .run)
-unfolding belowRun
-counted c = c .next .ensures ∙ ap (λ (b : Bool). runNext b (c .before .before .args .self .run)) (c .before .slower .ensures)
+above-requires : tie.Need-above-requires
+above-requires c κs = search needs
 
 returns : tie.Need-returns
 returns c = let s = c .before .before .before .args in
-    let value = c .value .ensures ∙ ap (λ (n : ℕ). valueNext (s .values .now) (s .step) n (s .self .on)) (counted (c .before)) in
-    λ i. record { run = counted (c .before) i; on = value i }
+    c .below .ensures ∙ below-is (s .values .now) (s .step) (s .self) (sym (c .before .before .slower .ensures) ∙ c .before .if1 .taken)
+
+returns-2 : tie.Need-returns-2
+returns-2 c = let s = c .before .before .before .args in
+    c .above .ensures ∙ above-is (s .values .now) (s .step) (s .self) (sym (c .before .before .slower .ensures) ∙ c .before .if1 .left)
 
 pub next-spec : {M : Type 1} → statement M
-next-spec = tie.close (tie.spec slower-requires next-requires value-requires returns)
+next-spec = tie.close (tie.spec slower-requires below-requires above-requires returns returns-2)

@@ -4,6 +4,7 @@ use crate::causes::{self, Causes, Run, F};
 use crate::deviation::{paper, Paper, Reading};
 use crate::gear::{Ratio, GEAR_BITS};
 use crate::machine_data::{number, Function, MachineData, COUNT, HEADS};
+use crate::nx::Nx;
 use crate::selection::{Selection, Selections};
 use crate::stop::{Rank, Stop};
 
@@ -47,6 +48,7 @@ fn free_bits<R: Reading>(r: R, data: &MachineData) -> u32 {
     let gears = paper!(r, gears,
         GearBitsUsableAt51 => true,
         GearBitsUnusableAt67 => false,
+        GearBitsUnusableAt69 => gears && data.head() != 69,
         GearNeedsSbhSg => gears && data.has(r, Function::SbhSg));
     let bits = paper!(r, GEAR_BITS,
         GearBitsOneLower => GEAR_BITS >> 1,
@@ -104,6 +106,7 @@ pub struct Channel {
     f: F,
     run: Run,
     cams: [bool; 8],
+    nx: Nx,
     /// Of deviations only: the word to echo, and the ratio of a cycle before.
     echo: Option<u32>,
     earlier: Option<Ratio>,
@@ -126,6 +129,7 @@ impl Channel {
             f: F::OFF,
             run: Run(0),
             cams: paper!(r, [false; 8], CamsStartAt1 => [true; 8]),
+            nx: Nx::fresh(r),
             echo: None,
             earlier: None,
         }
@@ -191,6 +195,7 @@ impl Channel {
             UnusableKeepsPrevious => self.previous,
             UnusableBecomesPrevious => Some(position));
         self.selections.unusable(r);
+        self.nx.unusable(r, &self.data);
         paper!(r, (),
             UnusableAcknowledged => if acknowledged { self.stop.clear(r) },
             UnusableFOff => self.f = F::OFF,
@@ -257,6 +262,10 @@ impl Channel {
         });
         paper!(r, self.move_cams(r, position),
             CamsScaled => self.move_cams(r, ratio.of_number(position.into()) as i32));
+        self.advance_nx(r, &moment);
+        paper!(r, (),
+            ClearPutsNxTo0 => if self.clears(r, acknowledged, &causes) { self.nx.value = false },
+            ClearEndsNxRun => if self.clears(r, acknowledged, &causes) { self.nx.run = 0 });
         let word = self.word(r, moment.selected, inputs, Some(&moment));
         self.previous = Some(position);
         paper!(r, (), ClearForgetsPrevious => {
@@ -367,24 +376,31 @@ impl Channel {
             CamToleranceBothSides => position < edge - tolerance)
     }
 
-    /// "n<nx: |d| × 60 < datum 25 × T.", "n<nx shows 0 in an unusable cycle"; W1: the step "times numerator over
-    /// denominator, still without dividing"
+    /// W3: "Value and run are worked out while the function is off too.", and in whatever stop.
     #[inline]
-    fn below_nx<R: Reading>(&self, r: R, moment: Option<&Moment>) -> bool {
-        let Some(&Moment { d, ratio, .. }) = moment else {
-            return paper!(r, false, UnusableNxShown => true);
-        };
-        let nx = self.data.get(number::NX);
-        let (step, bound) = (ratio.step(r, d), ratio.bound(self.data.times_t(nx)));
-        paper!(r, step.abs() * 60 < bound,
-            NxAtBound => step.abs() * 60 <= bound,
-            NxSigned => step * 60 < bound,
-            NxWithoutT => step.abs() * 60 < ratio.bound(i64::from(nx) * 12),
-            NxDivides => step.abs() < bound / 60,
-            NxNeedsPrevious => self.previous.is_some() && step.abs() * 60 < bound,
-            NxUnscaled => d.abs() * 60 < self.data.times_t(nx),
-            NxRatioDivides => ratio.of_number(d.abs()) * 60 < self.data.times_t(nx),
-            NxRatioDividesBound => d.abs() * 60 < ratio.of_bound(self.data.times_t(nx)))
+    fn advance_nx<R: Reading>(&mut self, r: R, moment: &Moment) {
+        let before = self.nx;
+        self.nx.advance(r, &self.data, moment);
+        paper!(r, (),
+        NxWaitsForPrevious => if self.previous.is_none() { self.nx = before },
+        NxWaitsInStopA => if self.stop.rank == Rank::A { self.nx = before },
+        NxWaitsInStop => if self.stop.rank != Rank::None { self.nx = before },
+        StopAPutsNxTo0 => if self.stop.rank == Rank::A { self.nx.value = false },
+        StopEndsNxRun => if self.stop.rank != Rank::None { self.nx.run = 0 },
+        NxRunEndsWithRatio => if self.earlier.replace(moment.ratio).is_some_and(|was| was != moment.ratio) {
+            self.nx = before;
+            self.nx.run = 0
+        });
+    }
+
+    /// W3: "An unusable cycle shows 0", whatever is kept.
+    #[inline]
+    fn shown_nx<R: Reading>(&self, r: R, moment: Option<&Moment>) -> bool {
+        paper!(r, moment.is_some() && self.nx.value,
+            UnusableNxShown => moment.is_none() || self.nx.value,
+            UnusableNxValueShown => self.nx.value,
+            NxShowsFilteredAlone => moment.is_some() && self.nx.run > i64::from(self.data.get(number::NX_FILTER)),
+            NxNeedsPrevious => self.previous.is_some() && moment.is_some() && self.nx.value)
     }
 
     /// "k starts at 0, rises by one each cycle, and follows 50 by 0."; W1: "k runs over as many data as the list has."
@@ -399,9 +415,13 @@ impl Channel {
             KStopsAt50 => (self.k + 1).min(50),
             KFromDatum1 => next.max(1),
             KOnlyTo50 => next % 51,
-            KAlwaysTo66 => (self.k + 1) % 67,
+            KAlwaysTo66 => if self.data.head() == 51 { (self.k + 1) % 67 } else { next },
             KOnlyTo65 => next % 66,
-            KStopsAt66 => if self.k == 66 { 66 } else { next });
+            KStopsAt66 => if self.k == 66 { 66 } else { next },
+            KOnlyTo66 => next % 67,
+            KOnlyTo67 => next % 68,
+            KAlwaysTo68 => (self.k + 1) % 69,
+            KStopsAt68 => if self.k == 68 { 68 } else { next });
     }
 
     /// "Channel word: bit 0 SBH or SG effective, 2 pulses cancelled (rank 5), 7 always 1; .."
@@ -453,9 +473,8 @@ impl Channel {
         } else {
             0
         };
-        let below_nx = nx_on && self.below_nx(r, moment);
-        cams << paper!(r, 8, CamBitsMoved => 9)
-            | u32::from(below_nx) << paper!(r, 21, NxBitMoved => 22)
+        let nx = nx_on && self.shown_nx(r, moment);
+        cams << paper!(r, 8, CamBitsMoved => 9) | u32::from(nx) << paper!(r, 21, NxBitMoved => 22)
     }
 
     /// "2 pulses cancelled (rank 5)", "24-26 rank, 27 held, 28 F"
@@ -554,6 +573,11 @@ impl Channel {
     /// The run of differing input words.
     pub fn run(&self) -> i64 {
         self.run.0
+    }
+
+    /// The value of n<nx and its run, worked out with the function off too.
+    pub fn nx(&self) -> &Nx {
+        &self.nx
     }
 
     /// The cam signals, SN1+ in bit 0, worked out with the function off too.

@@ -1,4 +1,4 @@
-//! Readings of document 01 and of requests W1 and W2: the papers themselves, and single deviations from them.
+//! Readings of document 01 and of requests W1 to W3: the papers themselves, and single deviations from them.
 //!
 //! A function of the model takes a reading. [`Paper`] never deviates and costs nothing;
 //! [`Deviant`] is wrong in one place, so that kits can be tried for whether they notice.
@@ -9,7 +9,9 @@
 //!   is 5 from there until a cycle clears, and that puts all of them off;
 //! - whether cause 13 stands in a cycle after one in which it stood, or behind an unusable one:
 //!   the rank is 4 or 5 until a cycle clears, and that puts F off;
-//! - cam signals left as they are while their function is off: a list never changes;
+//! - cam signals, or value and run of n<nx, left as they are while their function is off: a list never changes;
+//! - the run of n<nx counted no further than one past datum 68, or ended where n<nx is 1: n<nx goes to 0 only where the
+//!   run ends all the same, and datum 68 never changes;
 //! - |d| × 60 divided by T before it is compared with nx or the shutdown speed: for whole n,
 //!   a quotient rounded down is below n just where the quotient is;
 //! - the device's look at bit 2, or at ranks above 5: a channel word has bit 2 just where its
@@ -172,6 +174,14 @@ deviations! {
     DenominatorLowNarrower: "a denominator must be at least 2", "W1: 59 to 66 the denominators, each 1 to 1000";
     DenominatorHighWider: "a denominator may be 1,001", "W1: 59 to 66 the denominators, each 1 to 1000";
     DenominatorHighNarrower: "a denominator must be at most 999", "W1: 59 to 66 the denominators, each 1 to 1000";
+    NxHysteresisLowWider: "the hysteresis of n<nx may be -1", "W3: Data 67 (0 to 1,000,000 mm/min) and 68 (0 to 1,000 cycles) are added.";
+    NxHysteresisLowNarrower: "the hysteresis of n<nx must not be 0", "W3: Data 67 (0 to 1,000,000 mm/min) and 68 (0 to 1,000 cycles) are added.";
+    NxHysteresisHighWider: "the hysteresis of n<nx may be 1,000,001", "W3: Data 67 (0 to 1,000,000 mm/min) and 68 (0 to 1,000 cycles) are added.";
+    NxHysteresisHighNarrower: "the hysteresis of n<nx must be at most 999,999", "W3: Data 67 (0 to 1,000,000 mm/min) and 68 (0 to 1,000 cycles) are added.";
+    NxFilterLowWider: "the filter of n<nx may be -1", "W3: Data 67 (0 to 1,000,000 mm/min) and 68 (0 to 1,000 cycles) are added.";
+    NxFilterLowNarrower: "the filter of n<nx must not be 0", "W3: Data 67 (0 to 1,000,000 mm/min) and 68 (0 to 1,000 cycles) are added.";
+    NxFilterHighWider: "the filter of n<nx may be 1,001", "W3: Data 67 (0 to 1,000,000 mm/min) and 68 (0 to 1,000 cycles) are added.";
+    NxFilterHighNarrower: "the filter of n<nx must be at most 999", "W3: Data 67 (0 to 1,000,000 mm/min) and 68 (0 to 1,000 cycles) are added.";
     FunctionsSeAndCamsSwapped: "function bit 1 is the cams and bit 2 is SE", "1 | functions; bit 0 SBH/SG, 1 SE, 2 cams, 3 n<nx, 4 external stops";
     FunctionsNxAndStopsSwapped: "function bit 3 is the external stops and bit 4 is n<nx", "1 | functions; bit 0 SBH/SG, 1 SE, 2 cams, 3 n<nx, 4 external stops";
 
@@ -203,16 +213,25 @@ deviations! {
     HeadInEightBits: "only the lowest 8 bits of a head's value are looked at", "the top 4 bits are the kind, unused bits 0";
     HeadsBetweenTaken: "a head between 51 and 67 is taken, with as many data", "W1: the list head then says 67";
     Head66Taken: "a head of 66 is taken, with as many data", "W1: the list head then says 67";
-    Head68Taken: "a head of 68 is taken for one of 67", "W1: the list head then says 67";
-    HeadsAboveTaken: "a head above 67 is taken for one of 67", "W1: the list head then says 67";
     Head67Refused: "a head of 67 is refused", "W1: the list head then says 67";
     Head67Of51Data: "a list headed 67 is read as one of 51 data", "W1: the list head then says 67";
+    Head68Taken: "a head of 68 is taken, with as many data", "W1: Data added by later tickets raise the head likewise";
+    HeadsAboveTaken: "a head above 69 is taken for one of 69", "W1: Data added by later tickets raise the head likewise";
+    Head69Refused: "a head of 69 is refused", "W1: Data added by later tickets raise the head likewise";
+    Head69Of67Data: "a list headed 69 is read as one of 67 data", "W1: Data added by later tickets raise the head likewise";
+    Head69Of51Data: "a list headed 69 is read as one of 51 data", "W1: Data added by later tickets raise the head likewise";
     DataBehindHeadTaken: "a list headed 51 takes data 51 to 66 where they follow", "W1: the list head then says 67";
+    DataBehind67Taken: "a list headed 67 takes data 67 and 68 where they follow", "W1: Data added by later tickets raise the head likewise";
     ListMayEndAt51: "a list headed 67 may end behind datum 50", "W1: the list head then says 67";
+    ListMayEndAt67: "a list headed 69 may end behind datum 66", "W1: Data added by later tickets raise the head likewise";
     LackedNumeratorsAre0: "in a list headed 51 the numerators are 0", "W1: A list headed 51 is read with every ratio 1 to 1";
     LackedDenominatorsAre0: "in a list headed 51 the denominators are 0", "W1: A list headed 51 is read with every ratio 1 to 1";
+    LackedHysteresisIs1: "in a shorter list the hysteresis of n<nx is 1", "W1: in a shorter list they count as 0";
+    LackedFilterIs1: "in a shorter list the filter of n<nx is 1", "W1: in a shorter list they count as 0";
     OpenRatioIs1: "an open numerator or denominator is 1", "datum open | 2";
+    OpenNxDatumIs0: "an open hysteresis or filter of n<nx is 0", "datum open | 2";
     SeEndsBeforeRatios: "number 5 is told before data 51 to 66 are looked at", "per datum 1, 2, 3, 4; then 5";
+    SeEndsBeforeNxData: "number 5 is told before data 67 and 68 are looked at", "per datum 1, 2, 3, 4; then 5";
     UnlikeHeadsRefused: "a list B with another head than list A's is refused", "W1: cause 12 also stands where heads differ";
     DatumNumberIgnored: "a datum word of any number is taken", "A list is a head and the data in number order.";
     DatumBitsIgnored: "unused bits of a datum word are ignored", "the top 4 bits are the kind, unused bits 0";
@@ -276,6 +295,7 @@ deviations! {
     Bits22To27Ignored: "input bits 22 to 27 may be 1", "Every other bit must be 0.";
     GearBitsUsableAt51: "with a list headed 51 input bits 8 to 10 may be 1, and the ratio stays 1 to 1", "W1: its logs keep their words, bits 8 to 10 being 0 as before";
     GearBitsUnusableAt67: "input bits 8 to 10 must be 0 with a list headed 67 too", "W1: Input bits 8 to 10 pick one of eight ratios";
+    GearBitsUnusableAt69: "input bits 8 to 10 must be 0 with a list headed 69", "W1: Input bits 8 to 10 pick one of eight ratios";
     GearNeedsSbhSg: "input bits 8 to 10 may be 1 only with function 0 on", "W1: Input bits 8 to 10 pick one of eight ratios";
     Bit7Free: "input bit 7 may be 1 with a list headed 67", "Every other bit must be 0.";
     Bit11Free: "input bit 11 may be 1 with a list headed 67", "Every other bit must be 0.";
@@ -290,6 +310,7 @@ deviations! {
     DenominatorOfFirst: "the denominator is always datum 59", "W1: Data 51 to 58 are the numerators and 59 to 66 the denominators";
     RatioInPairs: "data 51, 53, .. are the numerators and 52, 54, .. the denominators", "W1: Data 51 to 58 are the numerators and 59 to 66 the denominators";
     RatioSwapped: "data 51 to 58 are the denominators and 59 to 66 the numerators", "W1: Data 51 to 58 are the numerators and 59 to 66 the denominators";
+    RatioIs1At69: "with a list headed 69 every ratio is 1 to 1", "W1: Input bits 8 to 10 pick one of eight ratios";
     RatioOfReport: "the other channel's input bits pick the ratio", "W1: Input bits 8 to 10 pick one of eight ratios";
     RatioOfCycleBefore: "the ratio is that of the cycle before", "W1: Input bits 8 to 10 pick one of eight ratios (those of the present cycle)";
     RatioOfFirstCycle: "the ratio is that of the first usable cycle", "W1: Input bits 8 to 10 pick one of eight ratios (those of the present cycle)";
@@ -305,6 +326,10 @@ deviations! {
     KAlwaysTo66: "k follows 66 by 0 with a list headed 51 too", "W1: k runs over as many data as the list has";
     KOnlyTo65: "k follows 65 by 0", "W1: k runs over as many data as the list has";
     KStopsAt66: "k stays at 66", "W1: k runs over as many data as the list has";
+    KOnlyTo66: "k follows 66 by 0 with a list headed 69 too", "W1: k runs over as many data as the list has";
+    KOnlyTo67: "k follows 67 by 0", "W1: k runs over as many data as the list has";
+    KAlwaysTo68: "k follows 68 by 0 with shorter lists too", "W1: k runs over as many data as the list has";
+    KStopsAt68: "k stays at 68", "W1: k runs over as many data as the list has";
 
     // Step 1.
     UnusableIsB: "an unusable cycle enters STOP B", "1. Unusable: cause 1, rank 5, not held.";
@@ -326,6 +351,14 @@ deviations! {
     UnusableCamsShow0: "the cams show 0 in an unusable cycle", "counts, runs, F, selections, references and cams stay";
     UnusableCamsWorkedOut: "the cams are worked out in an unusable cycle too", "counts, runs, F, selections, references and cams stay";
     UnusableNxShown: "n<nx shows 1 in an unusable cycle", "n<nx shows 0 in an unusable cycle";
+    UnusableNxValueShown: "n<nx shows its kept value in an unusable cycle", "W3: An unusable cycle shows 0 and leaves value and run as they were.";
+    UnusableNxTo0: "an unusable cycle puts the value of n<nx to 0", "W3: An unusable cycle shows 0 and leaves value and run as they were.";
+    UnusableNxTo1: "an unusable cycle puts the value of n<nx to 1", "W3: An unusable cycle shows 0 and leaves value and run as they were.";
+    UnusableNxAsFresh: "an unusable cycle puts value and run of n<nx to 0", "W3: An unusable cycle shows 0 and leaves value and run as they were.";
+    UnusableNxRunEnds: "an unusable cycle ends the run of n<nx", "W3: An unusable cycle shows 0 and leaves value and run as they were.";
+    UnusableNxRunCounts: "an unusable cycle counts in the run of n<nx", "W3: An unusable cycle shows 0 and leaves value and run as they were.";
+    UnusableNxRunFalls: "an unusable cycle takes one from the run of n<nx", "W3: An unusable cycle shows 0 and leaves value and run as they were.";
+    UnusableNxWorkedOut: "in an unusable cycle n<nx is worked out as at rest", "W3: An unusable cycle shows 0 and leaves value and run as they were.";
 
     // Step 2.
     StepOfScaledPositions: "d is the difference of two positions, each times its cycle's ratio", "W1: Positions aren't scaled.";
@@ -383,6 +416,7 @@ deviations! {
     SgWithoutT: "cause 3 takes T as 12", "3 SG, |d| × 6000 > limit × percent × T";
     SgOnePercentMore: "cause 3 takes the percent one more", "3 SG, |d| × 6000 > limit × percent × T";
     SgUnscaled: "SG is compared without the ratio", "W1: Every speed comparison, for SG, nx and shutdown, takes the step times numerator over denominator, still without dividing.";
+    SgWithHysteresis: "cause 3 stands above the limit plus the hysteresis of n<nx", "3 SG, |d| × 6000 > limit × percent × T";
     SgRatioDivides: "|d| × numerator is divided by the denominator before SG is compared with it", "W1: Every speed comparison, for SG, nx and shutdown, takes the step times numerator over denominator, still without dividing.";
     SgRatioDividesLate: "|d| × 6000 × numerator is divided by the denominator before SG is compared with it", "W1: Every speed comparison, for SG, nx and shutdown, takes the step times numerator over denominator, still without dividing.";
     RatioStepOf32Bits: "|d| × numerator is cut to 32 bits", "W1: Every speed comparison, for SG, nx and shutdown, takes the step times numerator over denominator, still without dividing.";
@@ -439,6 +473,7 @@ deviations! {
     HeadOfLongerOnly: "only the channel with the longer list notes another head", "W1: The report carries the head too, and cause 12 also stands where heads differ.";
     HeadOfShorterOnly: "only the channel with the shorter list notes another head", "W1: The report carries the head too, and cause 12 also stands where heads differ.";
     HeadWithoutF: "cause 12 does not set F where heads alone differ", "W1: The report carries the head too, and cause 12 also stands where heads differ.";
+    Heads67And69Alike: "cause 12 takes the heads 67 and 69 as alike", "W1: The report carries the head too, and cause 12 also stands where heads differ.";
     OtherUnusableLeftOut: "causes 10 and 11 leave out an unusable report", "10 position differs from the report (the other's unusable report: compared as it is)";
     FTimeSetAnew: "each of 10, 11, 12 sets the count from F to B anew", "10, 11, 12 set F and, if F is new, its count to datum 34";
     FTimeSetAnewAt0: "a difference sets F's count anew once it is 0", "10, 11, 12 set F and, if F is new, its count to datum 34";
@@ -534,6 +569,7 @@ deviations! {
     ShutdownAlsoC: "C becomes A below the shutdown speed too", "B also becomes A where |d| × 60 < datum 33 × T.";
     ShutdownSigned: "the shutdown speed is compared with d, not |d|", "B also becomes A where |d| × 60 < datum 33 × T.";
     ShutdownWithoutT: "the shutdown speed takes T as 12", "B also becomes A where |d| × 60 < datum 33 × T.";
+    ShutdownWithHysteresis: "B becomes A below the shutdown speed plus the hysteresis of n<nx", "B also becomes A where |d| × 60 < datum 33 × T.";
     ShutdownDivides: "datum 33 × T is divided by 60 before |d| is compared with it", "Not so: dividing before comparing a speed";
     ShutdownUnscaled: "the shutdown speed is compared without the ratio", "W1: Every speed comparison, for SG, nx and shutdown, takes the step times numerator over denominator, still without dividing.";
     ShutdownRatioDivides: "|d| × numerator is divided by the denominator before the shutdown speed is compared with it", "W1: Every speed comparison, for SG, nx and shutdown, takes the step times numerator over denominator, still without dividing.";
@@ -562,6 +598,55 @@ deviations! {
     NxRatioDividesBound: "datum 25 × T × denominator is divided by the numerator before |d| × 60 is compared with it", "W1: Every speed comparison, for SG, nx and shutdown, takes the step times numerator over denominator, still without dividing.";
     NxNeedsPrevious: "n<nx shows 0 without a previous position", "2. d = position less previous position, 0 if there is none.";
     NxFunctionIgnored: "n<nx shows with its function off", "Cams and n<nx show 0 while their function is off";
+    NxFresh1: "the fresh value of n<nx is 1", "W3: In between it keeps its value, fresh 0.";
+    NxRunFresh1: "the fresh run of n<nx is 1", "A fresh channel has .. all counts and runs 0";
+    NxThisCycleNotCounted: "the present cycle does not count yet in the run of n<nx", "W3: It goes to 1 after the speed has been below nx in more than datum 68 usable cycles running.";
+    NxFilterAtLeast: "n<nx goes to 1 in as many cycles as datum 68 says", "W3: It goes to 1 after the speed has been below nx in more than datum 68 usable cycles running.";
+    NxFilterOneMore: "n<nx goes to 1 one cycle later", "W3: It goes to 1 after the speed has been below nx in more than datum 68 usable cycles running.";
+    NxFilterIgnored: "n<nx goes to 1 in the first cycle below nx", "W3: It goes to 1 after the speed has been below nx in more than datum 68 usable cycles running.";
+    NxFilterInMs: "datum 68 is taken in milliseconds", "W3: Data 67 (0 to 1,000,000 mm/min) and 68 (0 to 1,000 cycles) are added.";
+    NxFilteredTo0: "the filter holds up going to 0 as well", "W3: The signal goes to 0 where speed is nx plus hysteresis or more.";
+    NxNeverTo0: "n<nx never goes back to 0", "W3: The signal goes to 0 where speed is nx plus hysteresis or more.";
+    NxBetweenIs0: "between nx and nx plus hysteresis n<nx is 0", "W3: In between it keeps its value, fresh 0.";
+    NxBetweenIs1: "between nx and nx plus hysteresis n<nx is 1", "W3: In between it keeps its value, fresh 0.";
+    NxShortRunIs0: "below nx with too short a run n<nx is 0", "W3: In between it keeps its value, fresh 0.";
+    NxShowsFilteredAlone: "n<nx shows just where its run is over datum 68", "W3: In between it keeps its value, fresh 0.";
+    NxRunStopsAt1000: "the run of n<nx is not counted past 1,000", "W3: It goes to 1 after the speed has been below nx in more than datum 68 usable cycles running.";
+    NxRunStopsAtFilter: "the run of n<nx is not counted past datum 68", "W3: It goes to 1 after the speed has been below nx in more than datum 68 usable cycles running.";
+    NxRunGoesRound: "the run of n<nx begins anew behind 1,000", "W3: It goes to 1 after the speed has been below nx in more than datum 68 usable cycles running.";
+    NxRunNotEnded: "the run of n<nx is never ended", "W3: It goes to 1 after the speed has been below nx in more than datum 68 usable cycles running.";
+    NxRunFalls: "the run of n<nx falls by one where the speed is not below nx", "W3: It goes to 1 after the speed has been below nx in more than datum 68 usable cycles running.";
+    NxRunEndedAboveOnly: "the run of n<nx ends only at nx plus hysteresis", "W3: It goes to 1 after the speed has been below nx in more than datum 68 usable cycles running.";
+    NxRunEndsWithRatio: "another ratio begins the run of n<nx anew", "W3: It goes to 1 after the speed has been below nx in more than datum 68 usable cycles running.";
+    NxWaitsForPrevious: "value and run of n<nx stay in a cycle without a previous position", "2. d = position less previous position, 0 if there is none.";
+    NxWaitsInStopA: "value and run of n<nx stay in STOP A", "W3: Value and run are worked out while the function is off too. (and in every stop)";
+    NxWaitsInStop: "value and run of n<nx stay in every stop", "W3: Value and run are worked out while the function is off too. (and in every stop)";
+    StopAPutsNxTo0: "STOP A puts the value of n<nx to 0", "W3: Value and run are worked out while the function is off too. (and in every stop)";
+    StopEndsNxRun: "a stop ends the run of n<nx", "W3: Value and run are worked out while the function is off too. (and in every stop)";
+    ClearPutsNxTo0: "clearing puts the value of n<nx to 0", "5. Acknowledged and no fresh cause: rank 0, not held, F off. (nothing else)";
+    ClearEndsNxRun: "clearing ends the run of n<nx", "5. Acknowledged and no fresh cause: rank 0, not held, F off. (nothing else)";
+    NxDataSwapped: "datum 67 is the filter of n<nx and datum 68 its hysteresis", "W3: Data 67 (0 to 1,000,000 mm/min) and 68 (0 to 1,000 cycles) are added.";
+    NxHysteresisIgnored: "n<nx goes to 0 at nx", "W3: The signal goes to 0 where speed is nx plus hysteresis or more.";
+    NxHysteresisAlone: "n<nx goes to 0 at the hysteresis itself", "W3: The signal goes to 0 where speed is nx plus hysteresis or more.";
+    NxHysteresisBelow: "the hysteresis lies below nx", "W3: The signal goes to 0 where speed is nx plus hysteresis or more.";
+    NxHysteresisBothSides: "the hysteresis lies on both sides of nx", "W3: The signal goes to 0 where speed is nx plus hysteresis or more.";
+    NxHysteresisHalved: "half of the hysteresis lies on either side of nx", "W3: The signal goes to 0 where speed is nx plus hysteresis or more.";
+    NxHysteresisPercent: "the hysteresis is taken in percent of nx", "W3: Data 67 (0 to 1,000,000 mm/min) and 68 (0 to 1,000 cycles) are added.";
+    NxHysteresisOf16Bits: "the hysteresis is cut to 16 bits", "W3: The signal goes to 0 where speed is nx plus hysteresis or more.";
+    NxHysteresisWithoutT: "the hysteresis takes T as 12", "W3: The signal goes to 0 where speed is nx plus hysteresis or more.";
+    NxHysteresisUnscaled: "the hysteresis is taken without the ratio", "W1: Every speed comparison, for SG, nx and shutdown, takes the step times numerator over denominator, still without dividing.";
+    NxSumUpTo1000000: "nx plus hysteresis is taken as 1,000,000 at most", "W3: The signal goes to 0 where speed is nx plus hysteresis or more.";
+    NxTo0Above: "n<nx goes to 0 only above nx plus hysteresis", "W3: The signal goes to 0 where speed is nx plus hysteresis or more.";
+    NxTo0Signed: "n<nx goes to 0 by d, not by |d|", "W3: The signal goes to 0 where speed is nx plus hysteresis or more.";
+    NxTo0Divides: "(datum 25 + datum 67) × T is divided by 60 before |d| is compared with it", "Not so: dividing before comparing a speed";
+    NxTo0Unscaled: "nx plus hysteresis is compared without the ratio", "W1: Every speed comparison, for SG, nx and shutdown, takes the step times numerator over denominator, still without dividing.";
+    NxTo0ByFirstRatio: "nx plus hysteresis is compared by the first ratio", "W1: Every speed comparison, for SG, nx and shutdown, takes the step times numerator over denominator, still without dividing.";
+    NxTo1AtBound: "the run of n<nx counts cycles at nx itself", "W3: It goes to 1 after the speed has been below nx in more than datum 68 usable cycles running.";
+    NxTo1Signed: "the run of n<nx counts by d, not by |d|", "W3: It goes to 1 after the speed has been below nx in more than datum 68 usable cycles running.";
+    NxTo1AtRest: "the run of n<nx counts cycles at rest only", "W3: It goes to 1 after the speed has been below nx in more than datum 68 usable cycles running.";
+    NxTo1BelowSum: "the run of n<nx counts cycles below nx plus hysteresis", "W3: It goes to 1 after the speed has been below nx in more than datum 68 usable cycles running.";
+    NxTo1Unscaled: "the run of n<nx compares nx without the ratio", "W1: Every speed comparison, for SG, nx and shutdown, takes the step times numerator over denominator, still without dividing.";
+    NxTo1ByFirstRatio: "the run of n<nx compares nx by the first ratio", "W1: Every speed comparison, for SG, nx and shutdown, takes the step times numerator over denominator, still without dividing.";
 
     // The channel word.
     Bit0OnlySbh: "bit 0 shows SBH only", "bit 0 SBH or SG effective";

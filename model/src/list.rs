@@ -1,7 +1,7 @@
 //! The list reader: "A list is a head and the data in number order."
 
 use crate::deviation::{paper, Paper, Reading};
-use crate::machine_data::{lowest, number, range_as, Function, MachineData, COUNT, LACKED};
+use crate::machine_data::{all_lacked, lowest, number, range_as, Function, MachineData, COUNT};
 use crate::{whole, words};
 
 /// A refusal: "Cause | Number | Returned".
@@ -39,10 +39,12 @@ pub fn read_as<R: Reading>(r: R, words: &[u32]) -> Result<(MachineData, usize), 
 fn read_data<R: Reading>(r: R, words: &[u32]) -> Result<(MachineData, usize), Refusal> {
     let head = head(r, words)?;
     let head = paper!(r, head,
-        DataBehindHeadTaken => if goes_on(words) { COUNT } else { head },
-        ListMayEndAt51 => if goes_on(words) { head } else { 51 });
+        DataBehindHeadTaken => if head == 51 && goes_on(words, 51) { 67 } else { head },
+        DataBehind67Taken => if head == 67 && goes_on(words, 67) { 69 } else { head },
+        ListMayEndAt51 => if goes_on(words, 51) { head } else { 51 },
+        ListMayEndAt67 => if head == 69 && !goes_on(words, 67) { 67 } else { head });
     paper!(r, (), StructureFirst => { structure(words, head)?; });
-    let mut data = [LACKED; COUNT];
+    let mut data = all_lacked();
     let mut places = [0; COUNT];
     let mut place = 1;
     let mut later: Option<Refusal> = None;
@@ -70,11 +72,14 @@ fn read_data<R: Reading>(r: R, words: &[u32]) -> Result<(MachineData, usize), Re
                 if number == number::SE1_PLUS { ends_of(r, &data, &places, number::SE1_MINUS)? }
                 if number == number::SE2_PLUS { ends_of(r, &data, &places, number::SE2_MINUS)? }
             },
-            SeEndsBeforeRatios => if number == 50 { se_ends(r, &data, &places)? });
+            SeEndsBeforeRatios => if number == 50 { se_ends(r, &data, &places)? },
+            SeEndsBeforeNxData => if number == 66 { se_ends(r, &data, &places)? });
     }
     paper!(r, (),
         LackedNumeratorsAre0 => data[head.min(59)..59].fill(0),
-        LackedDenominatorsAre0 => data[head.max(59)..].fill(0));
+        LackedDenominatorsAre0 => data[head.clamp(59, 67)..67].fill(0),
+        LackedHysteresisIs1 => data[head.clamp(67, 68)..68].fill(1),
+        LackedFilterIs1 => data[head.max(68)..].fill(1));
     if let Some(fault) = later {
         return Err(fault);
     }
@@ -82,7 +87,8 @@ fn read_data<R: Reading>(r: R, words: &[u32]) -> Result<(MachineData, usize), Re
     Ok((MachineData::looked_through(data, head), place))
 }
 
-/// "Kind 1: list head, value 51."; W1: "the list head then says 67": how many data follow.
+/// "Kind 1: list head, value 51."; W1: "the list head then says 67", and later data "raise the head
+/// likewise": how many data follow.
 fn head<R: Reading>(r: R, words: &[u32]) -> Result<usize, Refusal> {
     match words.first().and_then(|&word| words::head_of(r, word)) {
         Some(head) => Ok(head),
@@ -195,7 +201,10 @@ fn resolve<R: Reading>(
         Arrived::Open => {
             return paper!(r, refuse(2, place),
             OpenIsLowest => Ok(lowest(number)),
-            OpenRatioIs1 => if number >= number::NUMERATOR { Ok(1) } else { refuse(2, place) },
+            OpenRatioIs1 => {
+                if (number::NUMERATOR..number::NX_HYSTERESIS).contains(&number) { Ok(1) } else { refuse(2, place) }
+            },
+            OpenNxDatumIs0 => if number >= number::NX_HYSTERESIS { Ok(0) } else { refuse(2, place) },
             OpenPlaceBehind => refuse(2, place + 1))
         }
     };
@@ -283,10 +292,10 @@ fn structure(words: &[u32], head: usize) -> Result<usize, Refusal> {
     Ok(place)
 }
 
-/// Whether datum 51 stands behind datum 50.
-fn goes_on(words: &[u32]) -> bool {
-    let behind = structure(words, 51);
-    behind.is_ok_and(|place| form(Paper, words, 51, place).is_ok())
+/// Whether behind so many data the next one stands.
+fn goes_on(words: &[u32], count: usize) -> bool {
+    let behind = structure(words, count);
+    behind.is_ok_and(|place| form(Paper, words, count, place).is_ok())
 }
 
 /// Whether a float lies outside the datum's range, whole or not.

@@ -1,17 +1,30 @@
 //! Machine data: "Each channel has its own list of 51 data, numbers 0 to 50."; W1: "Data 51 to 58
-//! are the numerators and 59 to 66 the denominators, each 1 to 1000; the list head then says 67."
+//! are the numerators and 59 to 66 the denominators, each 1 to 1000; the list head then says 67.";
+//! W3: "Data 67 (0 to 1,000,000 mm/min) and 68 (0 to 1,000 cycles) are added."
 
 use crate::deviation::{paper, Deviation, Deviation::*, Reading};
 use crate::list::{self, Refusal};
 
 /// The most data of a list.
-pub const COUNT: usize = 67;
+pub const COUNT: usize = 69;
 
-/// What a head may say: "51 data, numbers 0 to 50"; W1: "the list head then says 67"
-pub const HEADS: [usize; 2] = [51, 67];
+/// What a head may say: "51 data, numbers 0 to 50"; W1: "the list head then says 67", and "Data
+/// added by later tickets raise the head likewise"
+pub const HEADS: [usize; 3] = [51, 67, 69];
 
-/// W1: "A list headed 51 is read with every ratio 1 to 1": what a datum is that a list lacks.
-pub const LACKED: i32 = 1;
+/// What a datum is that a list lacks. W1: "A list headed 51 is read with every ratio 1 to 1"; of
+/// data added later "in a shorter list they count as 0"
+const fn lacked(number: usize) -> i32 {
+    match number {
+        number::NUMERATOR..number::NX_HYSTERESIS => 1,
+        _ => 0,
+    }
+}
+
+/// A list of no data: each as a list has it that lacks it.
+pub(crate) fn all_lacked() -> [i32; COUNT] {
+    std::array::from_fn(lacked)
+}
 
 /// The numbers of the data.
 pub mod number {
@@ -65,6 +78,10 @@ pub mod number {
     pub const NUMERATOR: usize = 51;
     /// W1: "and 59 to 66 the denominators"
     pub const DENOMINATOR: usize = 59;
+    /// W3: "Data 67 (0 to 1,000,000 mm/min)": the hysteresis of n<nx
+    pub const NX_HYSTERESIS: usize = 67;
+    /// W3: "and 68 (0 to 1,000 cycles)": its filter
+    pub const NX_FILTER: usize = 68;
 }
 
 /// "1 | functions; bit 0 SBH/SG, 1 SE, 2 cams, 3 n<nx, 4 external stops"
@@ -109,7 +126,7 @@ impl MachineData {
 
     /// The data of a list that was looked through.
     pub(crate) fn of(data: &[i32]) -> MachineData {
-        let mut all = [LACKED; COUNT];
+        let mut all = all_lacked();
         all[..data.len()].copy_from_slice(data);
         MachineData::looked_through(all, data.len())
     }
@@ -187,6 +204,8 @@ pub const fn range(number: usize) -> (i32, i32) {
         34 => (0, 1_000),
         35..=50 => (1, 100),
         51..=66 => (1, 1_000),
+        67 => (0, 1_000_000),
+        68 => (0, 1_000),
         _ => (0, 0),
     }
 }
@@ -224,6 +243,8 @@ const fn one_off(number: usize) -> [Deviation; 4] {
         34 => [FTimeLowWider, FTimeLowNarrower, FTimeHighWider, FTimeHighNarrower],
         35..=50 => [OverrideLowWider, OverrideLowNarrower, OverrideHighWider, OverrideHighNarrower],
         51..=58 => [NumeratorLowWider, NumeratorLowNarrower, NumeratorHighWider, NumeratorHighNarrower],
-        _ => [DenominatorLowWider, DenominatorLowNarrower, DenominatorHighWider, DenominatorHighNarrower],
+        59..=66 => [DenominatorLowWider, DenominatorLowNarrower, DenominatorHighWider, DenominatorHighNarrower],
+        67 => [NxHysteresisLowWider, NxHysteresisLowNarrower, NxHysteresisHighWider, NxHysteresisHighNarrower],
+        _ => [NxFilterLowWider, NxFilterLowNarrower, NxFilterHighWider, NxFilterHighNarrower],
     }
 }

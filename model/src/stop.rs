@@ -212,6 +212,8 @@ impl Stop {
             ShutdownIgnored => false,
             ShutdownNotOnEntry => !entered && step.abs() * 60 < bound,
             ShutdownSigned => step * 60 < bound,
+            ShutdownWithHysteresis => step.abs() * 60
+                < ratio.bound(data.times_t(speed + data.get(number::NX_HYSTERESIS))),
             ShutdownWithoutT => step.abs() * 60 < ratio.bound(i64::from(speed) * 12),
             ShutdownDivides => step.abs() < bound / 60,
             ShutdownUnscaled => d.abs() * 60 < data.times_t(speed),

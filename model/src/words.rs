@@ -3,7 +3,7 @@
 use crate::deviation::{paper, Paper, Reading};
 use crate::machine_data::HEADS;
 
-/// "Kind 1: list head, value 51."; W1: "the list head then says 67"
+/// "Kind 1: list head, value 51."; W1: "the list head then says 67", and later data "raise the head likewise"
 pub const HEAD: u32 = 1;
 /// "Kind 2: datum, number in bits 16-23, form in bits 0-1."
 pub const DATUM: u32 = 2;
@@ -38,18 +38,22 @@ fn value(word: u32, of_kind: u32, used: u32) -> Option<u32> {
     (word & !used == of_kind << 28).then_some(word & used)
 }
 
-/// "Kind 1: list head, value 51."; W1: "the list head then says 67": how many data a right head says.
+/// "Kind 1: list head, value 51."; W1: "the list head then says 67", and later data "raise the head likewise": how many
+/// data a right head says.
 pub fn head_of<R: Reading>(r: R, word: u32) -> Option<usize> {
     let says = HEADS.into_iter().find(|&count| word == head(count));
     paper!(r, says,
         HeadValueIgnored => other_head(word, |_| Some(51)),
         HeadsBetweenTaken => other_head(word, |says| (52..67).contains(&says).then_some(says)),
         Head66Taken => other_head(word, |says| (says == 66).then_some(66)),
-        Head68Taken => other_head(word, |says| (says == 68).then_some(67)),
-        HeadsAboveTaken => other_head(word, |says| (says > 67).then_some(67)),
+        Head68Taken => other_head(word, |says| (says == 68).then_some(68)),
+        HeadsAboveTaken => other_head(word, |says| (says > 69).then_some(69)),
         HeadInEightBits => other_head(word, |says| HEADS.into_iter().find(|&count| says & 0xff == count)),
-        Head67Refused => says.filter(|&says| says == 51),
-        Head67Of51Data => says.map(|_| 51))
+        Head67Refused => says.filter(|&says| says != 67),
+        Head67Of51Data => says.map(|says| if says == 67 { 51 } else { says }),
+        Head69Refused => says.filter(|&says| says != 69),
+        Head69Of67Data => says.map(|says| says.min(67)),
+        Head69Of51Data => says.map(|says| if says == 69 { 51 } else { says }))
 }
 
 /// Of deviations only: what a head is taken for that is none.

@@ -86,6 +86,10 @@ fn shown_text_says_how_many_data() {
         "list A of 67 data, else lowest, head 0x10000033\n  0 = 12\nlist B of 67 data, else lowest, no head\n",
         "list A of 67 data, else lowest, head 0x10000044\nlist B, else lowest\n  0 = 9\n",
         "list A of 67 data, else lowest\n  50 = 1\n  cut\nlist B, else lowest\n  0 = 9\n",
+        "lists A and B of 69 data, else lowest\n  67 = 300\n  68 = 2\nlog\nboth 0 off\n",
+        "list A of 69 data, else lowest\n  3 = 2000\n  4 = 7\n  5 = 8\n  68 = 9\nlist B of 67 data, else as A\n  3 = 1\n",
+        "list A of 69 data, else lowest, head 0x10000043\n  0 = 12\nlist B of 69 data, else lowest, no head\n",
+        "list A of 69 data, else lowest\n  66 = 1\n  cut\nlist B, else lowest\n  0 = 9\n",
     ] {
         assert_eq!(both_ways(&bytes(text)), text);
     }
@@ -143,14 +147,14 @@ fn faults_come_with_line_and_reason() {
             "'51' is not a datum's number from 0 to 50",
         ),
         (
-            "list A of 67 data\n67 = 1",
+            "list A of 69 data\n69 = 1",
             2,
-            "'67' is not a datum's number from 0 to 66",
+            "'69' is not a datum's number from 0 to 68",
         ),
         (
-            "list A of 68 data",
+            "list A of 70 data",
             1,
-            "'68' is not a number of data from 1 to 67",
+            "'70' is not a number of data from 1 to 69",
         ),
         ("list A of 67 words", 1, "'data' is wanted, not 'words'"),
         ("list A of data", 1, "'data' is not a number of data"),

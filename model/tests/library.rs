@@ -36,6 +36,8 @@ fn facts() -> String {
         format!("MONITOR_DATA == {COUNT}"),
         format!("MONITOR_DATUM_NUMERATOR == {}", number::NUMERATOR),
         format!("MONITOR_DATUM_DENOMINATOR == {}", number::DENOMINATOR),
+        format!("MONITOR_DATUM_NX_HYSTERESIS == {}", number::NX_HYSTERESIS),
+        format!("MONITOR_DATUM_NX_FILTER == {}", number::NX_FILTER),
         "MONITOR_REPORT == 4 && MONITOR_REPORT_HEAD == 3".into(),
         format!("MONITOR_STATE == {}", image::WORDS),
         format!("MONITOR_CODES == {}", causes::Causes::MOST),
@@ -45,26 +47,8 @@ fn facts() -> String {
         format!("MONITOR_IN_GEAR == {GEAR_BITS}u"),
         format!("sizeof(monitor_channel) == {}", size_of::<Channel>()),
     ];
-    let states = [
-        ("COUNT", image::word::COUNT),
-        ("K", image::word::K),
-        ("HAS_PREVIOUS", image::word::HAS_PREVIOUS),
-        ("PREVIOUS", image::word::PREVIOUS),
-        ("SELECTED", image::word::SELECTED),
-        ("EFFECTIVE", image::word::EFFECTIVE),
-        ("SG", image::word::SG),
-        ("OVERRIDE", image::word::OVERRIDE),
-        ("SBH_REFERENCE", image::word::SBH_REFERENCE),
-        ("DELAY", image::word::DELAY),
-        ("DIFFERING", image::word::RUN),
-        ("F", image::word::F),
-        ("F_LEFT", image::word::F_COUNT),
-        ("STOP", image::word::STOP),
-        ("RANK", image::word::RANK),
-        ("REST", image::word::REST),
-        ("CAMS", image::word::CAMS),
-    ];
-    facts.extend(states.map(|(name, place)| format!("MONITOR_STATE_{name} == {place}")));
+    let states = image::NAMES.iter().enumerate();
+    facts.extend(states.map(|(place, name)| format!("MONITOR_STATE_{name} == {place}")));
     let inputs = "SBH_SG_OFF SBH_OFF SG SE2 STOP_A_OFF STOP_C_OFF STOP_D_OFF STOP_E_OFF OVERRIDE";
     let inputs: Vec<_> = inputs
         .split(' ')
@@ -710,6 +694,10 @@ fn a_report_of_another_head() {
         (51, 67),
         (67, 51),
         (67, 66),
+        (67, 69),
+        (69, 67),
+        (69, 68),
+        (69, 51),
         (51, 0),
         (67, 1 << 31),
         (51, 307),
@@ -738,8 +726,8 @@ fn ratios_and_counts_of_any_content() {
     ));
     for ratio in [0, -1, 1, 500, 1000, 1001, 5000, i32::MIN, i32::MAX] {
         for other in [0, 1, 7, 1000, 5000] {
-            for count in [0, 1, 50, 51, 52, 66, 67, 68, 300, u32::MAX] {
-                for k in [0, 50, 51, 65, 66, 67, 254, 255, 256] {
+            for count in [0, 1, 50, 51, 52, 66, 67, 68, 69, 70, 300, u32::MAX] {
+                for k in [0, 50, 51, 65, 66, 67, 68, 69, 254, 255, 256] {
                     let (mut data, mut state) = (fresh.proved.data, fresh.proved.state);
                     (data[53], data[61]) = (ratio, other);
                     state[image::word::COUNT] = count;
@@ -754,6 +742,74 @@ fn ratios_and_counts_of_any_content() {
                     }
                 }
             }
+        }
+    }
+}
+
+/// What no list brings: hysteresis and filter outside their ranges, any value and any run.
+#[test]
+fn nx_of_any_content() {
+    let fresh = Pair::fresh(data_of(COUNT, &[(0, 12), (1, 8), (25, 600)]));
+    let any = [
+        0,
+        -1,
+        1,
+        300,
+        999,
+        1000,
+        1001,
+        1_000_000,
+        1_000_001,
+        i32::MIN,
+        i32::MAX,
+    ];
+    for hysteresis in any {
+        for filter in any {
+            for value in [0, 1, 2, 1 << 31] {
+                for run in [0, 1, 999, 1000, 1001, 1002, u32::MAX] {
+                    let (mut data, mut state) = (fresh.proved.data, fresh.proved.state);
+                    (data[number::NX_HYSTERESIS], data[number::NX_FILTER]) = (hysteresis, filter);
+                    (state[image::word::NX], state[image::word::NX_RUN]) = (value, run);
+                    let mut pair = Pair {
+                        model: Lent::of(data, state),
+                        proved: Channel { data, state },
+                    };
+                    // Below nx, between, unusable, and far above.
+                    for (position, inputs) in [(0, 1), (150, 1), (150, 5), (150, 1), (9_000_000, 1)]
+                    {
+                        let report = pair.report(position, inputs);
+                        pair.cycle(position, inputs, report);
+                    }
+                }
+            }
+        }
+    }
+}
+
+/// The two words of n<nx, over cycles of every kind, with the function on and off.
+#[test]
+fn value_and_run_of_nx() {
+    for functions in [0, 8] {
+        let stated = [(0, 12), (1, functions), (25, 600), (67, 300), (68, 2)];
+        let mut channel = Pair::fresh(data_of(COUNT, &stated));
+        let shown = |value: u32| u32::from(functions != 0) * value << 21;
+        for (position, inputs, value, run) in [
+            (0, 1, 0, 1),
+            (119, 1, 0, 2),
+            (119, 5, 0, 2),
+            (119, 1, 1, 3),
+            (269, 1, 1, 0),
+            (269, 5, 1, 0),
+            (269, 1, 1, 1),
+            (449, 1, 0, 0),
+        ] {
+            let report = channel.report(position, inputs);
+            let (word, _) = channel.cycle(position, inputs, report);
+            let state = channel.proved.state;
+            let words = [state[image::word::NX], state[image::word::NX_RUN]];
+            assert_eq!(words, [value, run], "{position} {inputs}");
+            let usable = inputs == 1;
+            assert_eq!(word & 1 << 21, u32::from(usable) * shown(value));
         }
     }
 }

@@ -435,16 +435,27 @@ fn gear_bits_go_by_the_head_alone() {
 }
 
 #[test]
-fn heads_are_51_and_67() {
+fn heads_are_51_67_and_69() {
     row(
         "list A of 60 data; list B",
         "refused 1 0 A",
         &[HeadsBetweenTaken],
     );
     row(
-        "list A of 67 data, head 0x10000045; list B",
+        "list A of 69 data, head 0x10000046; list B",
         "refused 1 0 A",
         &[HeadsAboveTaken],
+    );
+    row("list A of 68 data; list B", "refused 1 0 A", &[Head68Taken]);
+    row(
+        "list A of 67 data, head 0x10000045; list B",
+        "refused 1 202 A",
+        &[Head69Refused, ListMayEndAt67],
+    );
+    row(
+        "list A of 69 data, head 0x10000043; list B",
+        "refused 1 0 B",
+        &[DataBehind67Taken],
     );
     row(
         "list A of 67 data, head 0x10000033; list B",

@@ -429,9 +429,10 @@ type Kit = Result<Vec<u8>, String>;
 /// A log's name, and its kit with so many cycles.
 type Log = (&'static str, fn(usize) -> Kit);
 
-const LOGS: [Log; 6] = [
+const LOGS: [Log; 7] = [
     ("quiet SG", |cycles| log(QUIET, cycles)),
     ("gears", |cycles| log(GEARS, cycles)),
+    ("n<nx", |cycles| log(NX, cycles)),
     ("stops, F and acknowledgements", |cycles| log(STOPS, cycles)),
     ("unusable", |cycles| log(UNUSABLE, cycles)),
     ("cams", |cycles| log(CAMS, cycles)),
@@ -439,11 +440,12 @@ const LOGS: [Log; 6] = [
 ];
 
 /// A seed whose kit has every function on, and whose log comes to every rank.
-const CHANCE: u64 = 20_745;
+const CHANCE: u64 = 21_242;
 
-const LISTS: [(&str, &str); 3] = [
+const LISTS: [(&str, &str); 4] = [
     ("whole numbers", "lists A and B"),
     ("whole numbers, 67 data", "lists A and B of 67 data"),
+    ("whole numbers, 69 data", "lists A and B of 69 data"),
     (
         "binary64",
         "lists A and B
@@ -467,6 +469,26 @@ const QUIET: Pattern = (
       3 = 2000
       7 = 3",
     &["both 0 SG1", "both 200 SG1", "both 400 SG1", "both 200 SG1"],
+);
+
+/// n<nx with hysteresis and filter: set, kept on either side of nx, and put to 0.
+const NX: Pattern = (
+    "lists A and B of 69 data
+      0 = 12
+      1 = 8
+      25 = 600
+      67 = 300
+      68 = 2",
+    &[
+        "both 0 off",
+        "both 119 off",
+        "both 0 off",
+        "both 119 off",
+        "both 269 off",
+        "both 149 off",
+        "both -31 off",
+        "both 119 off",
+    ],
 );
 
 /// SG and n<nx by ratios that do not divide, another one in each cycle.

@@ -3,18 +3,20 @@
 //! Every content of the two arrays stands for some channel. Where it is none that a list and its
 //! cycles lead to, data are read at the nearer end of their range, but cams as they stand; they
 //! are reported and compared by cause 12 as they stand, and k follows the count of the list. The
-//! places behind a shorter list's data hold 0, so that its ratios are read as 1 to 1.
+//! places behind a shorter list's data hold 0, so that its ratios are read as 1 to 1, and the
+//! hysteresis and the filter of n<nx as 0.
 
 use super::{Channel, Cycle, Report};
 use crate::causes::{Run, F};
 use crate::list::Refusal;
 use crate::log::{self, Record};
 use crate::machine_data::{number, range, MachineData, COUNT};
+use crate::nx::Nx;
 use crate::selection::{Selection, Selections};
 use crate::stop::{Rank, Stop};
 
 /// The words of a state.
-pub const WORDS: usize = 17;
+pub const WORDS: usize = 19;
 
 /// The state of a channel: a signed number stands in two's complement.
 pub type Image = [u32; WORDS];
@@ -55,7 +57,34 @@ pub mod word {
     pub const REST: usize = 15;
     /// The cam signals as bits.
     pub const CAMS: usize = 16;
+    /// Whether the value of n<nx is 1.
+    pub const NX: usize = 17;
+    /// The run of n<nx.
+    pub const NX_RUN: usize = 18;
 }
+
+/// The names of the words, as the header has them behind `MONITOR_STATE_`.
+pub const NAMES: [&str; WORDS] = [
+    "COUNT",
+    "K",
+    "HAS_PREVIOUS",
+    "PREVIOUS",
+    "SELECTED",
+    "EFFECTIVE",
+    "SG",
+    "OVERRIDE",
+    "SBH_REFERENCE",
+    "DELAY",
+    "DIFFERING",
+    "F",
+    "F_LEFT",
+    "STOP",
+    "RANK",
+    "REST",
+    "CAMS",
+    "NX",
+    "NX_RUN",
+];
 
 /// The data of the cams' edges.
 const CAMS: std::ops::Range<usize> = number::CAM..number::CAM + 8;
@@ -222,6 +251,8 @@ fn image(channel: &Channel, count: u32) -> Image {
         rank,
         rest,
         channel.cams(),
+        channel.nx.value.into(),
+        channel.nx.run as u32,
     ]
 }
 
@@ -229,7 +260,7 @@ fn image(channel: &Channel, count: u32) -> Image {
 fn written(state: &Image) -> Image {
     let mut written = *state;
     written[word::K] &= 0xff;
-    for flag in [word::HAS_PREVIOUS, word::SELECTED, word::F] {
+    for flag in [word::HAS_PREVIOUS, word::SELECTED, word::F, word::NX] {
         written[flag] = written[flag].min(1);
     }
     if written[word::HAS_PREVIOUS] == 0 {
@@ -284,6 +315,7 @@ fn channel_of(data: &[i32; COUNT], state: &Image) -> Channel {
     };
     channel.stop = stop_of(&state);
     channel.cams = std::array::from_fn(|cam| state[word::CAMS] >> cam & 1 == 1);
+    channel.nx = Nx::of(state[word::NX] != 0, state[word::NX_RUN].into());
     channel
 }
 

@@ -123,10 +123,10 @@ fn list_at(words: &[u32], place: usize, otherwise: Else, before: &Stated) -> Opt
         return None;
     };
     let says = head.and_then(head_of);
-    let count = match has_datum(words, place, HEADS[0]) {
-        true => COUNT,
-        false => says.unwrap_or(HEADS[0]),
-    };
+    let mut heads = HEADS.into_iter();
+    let last = last_datum(words, place);
+    let count = heads.find(|&head| last < head).unwrap_or(COUNT);
+    let count = count.max(says.unwrap_or(0));
     let mut list = Found {
         lines: Vec::new(),
         of: match otherwise.count(before) == count {
@@ -149,15 +149,15 @@ fn list_at(words: &[u32], place: usize, otherwise: Else, before: &Stated) -> Opt
     Some(list)
 }
 
-/// Whether the data from a place on go so far as this number.
-fn has_datum(words: &[u32], place: usize, number: usize) -> bool {
+/// The number of the last of the data from a place on; 0 if there is none.
+fn last_datum(words: &[u32], place: usize) -> usize {
     let rest = words.get(place..).unwrap_or(&[]);
     let of_list = |word: &&u32| [words::DATUM, words::PIECE].contains(&words::kind(**word));
     let data = rest.iter().take_while(of_list);
     let last = data
         .filter(|&&word| words::kind(word) == words::DATUM)
         .last();
-    last.is_some_and(|&word| (word >> 16 & 0xff) as usize >= number)
+    last.map_or(0, |&word| (word >> 16 & 0xff) as usize)
 }
 
 impl Found {

@@ -8,8 +8,8 @@ use crate::channel::{bit, Report};
 use crate::gear::GEAR_BITS;
 use crate::list::Refusal;
 use crate::log::Record;
-use crate::machine_data::{COUNT, HEADS};
-use crate::{device, list, log, words, Paper};
+use crate::machine_data::{Function, COUNT, HEADS};
+use crate::{device, list, log, nx, words, Paper};
 use std::fmt;
 
 /// How many channels a list of calls has.
@@ -403,10 +403,10 @@ impl Calls {
     }
 }
 
-/// What a report may say of a head: one of the two, one beside them, or any word.
+/// What a report may say of a head: one of them, one beside them, or any word.
 fn other_head(random: &mut Xorshift) -> usize {
     let any = odd(random);
-    random.pick(&[0, 50, 51, 52, 66, 67, 68, any]) as usize
+    random.pick(&[0, 50, 51, 52, 66, 67, 68, 69, 70, any]) as usize
 }
 
 /// A number of any size, often one beside an end.
@@ -416,7 +416,7 @@ fn odd(random: &mut Xorshift) -> u32 {
         0 => any,
         1 => any >> random.below(32),
         2 => random.pick(&[
-            0, 1, 2, 3, 5, 50, 51, 66, 67, 68, 255, 256, 1_000, 1_001, 1_002,
+            0, 1, 2, 3, 5, 50, 51, 66, 67, 68, 69, 70, 255, 256, 1_000, 1_001, 1_002,
         ]),
         _ => random.pick(&[
             1 << 31,
@@ -453,9 +453,15 @@ named! {
         HeadAlone: "cause 12 by the head alone",
         FOverInactive: "no cause 13 with F's count at 0, as nothing is active",
         Cause13Later: "cause 13 by a selection that came later",
-        GearOfList: "a cycle with a gear's bits and a list headed 67",
-        GearOfCount: "a cycle with a gear's bits and a count above 67",
+        GearOfList: "a cycle with a gear's bits and a list headed 67 or 69",
+        GearOfCount: "a cycle with a gear's bits and a count above 69",
         GearBelow67: "a cycle with a gear's bits and a count below 67",
+        NxAnyWord: "a usable cycle with a word above 1 for n<nx",
+        NxKept: "n<nx kept at 1 with no run",
+        NxWithoutFunction: "n<nx goes to 1 with its function off",
+        NxUnusable: "an unusable cycle with n<nx at 1 and a run",
+        NxLongestRun: "a run of n<nx that stays at 1,001",
+        NxRunBeyond: "a run of n<nx above 1,001",
         NoCause: "no cause",
         Held: "held",
         F: "F on",
@@ -581,6 +587,7 @@ impl ReachedCalls {
                 let alone = codes.contains(&12) && own.datum == report.datum;
                 self.event(Event::HeadAlone, alone);
                 self.f(&before.0[of], codes);
+                self.nx(&before.0[of], call, codes);
                 self.cycle(word, codes, &mut pasts[of]);
                 pasts[of].k = before.0[of].channel().k();
             }
@@ -615,6 +622,35 @@ impl ReachedCalls {
         let stands = codes.contains(&13);
         self.event(Event::FOverInactive, over && !stands);
         self.event(Event::Cause13Later, over && !active && stands);
+    }
+
+    /// What n<nx comes to.
+    fn nx(&mut self, before: &Lent, call: &Call, codes: [u8; 13]) {
+        let &Call::Cycle {
+            position,
+            inputs,
+            report,
+            ..
+        } = call
+        else {
+            return;
+        };
+        let mut after = before.clone();
+        after.cycle(position, inputs, false, report);
+        let [was, is] = [before, &after].map(|lent| *lent.channel().nx());
+        let usable = !codes.contains(&1);
+        let on = before.channel().data().has(Paper, Function::Nx);
+        let any = before.state()[image::word::NX] > 1;
+        self.event(Event::NxAnyWord, usable && any);
+        self.event(
+            Event::NxKept,
+            usable && was.value && is.value && is.run == 0,
+        );
+        self.event(Event::NxWithoutFunction, !on && !was.value && is.value);
+        self.event(Event::NxUnusable, !usable && was.value && was.run > 0);
+        let full = was.run == nx::LONGEST;
+        self.event(Event::NxLongestRun, usable && full && is.run == was.run);
+        self.event(Event::NxRunBeyond, usable && was.run > nx::LONGEST);
     }
 
     fn read(&mut self, read: Result<usize, Refusal>, past: bool) {
@@ -669,9 +705,9 @@ impl ReachedCalls {
         self.event(Event::OtherCount, !HEADS.contains(&count));
         self.event(Event::OtherHead, report.head != count);
         let gear = inputs & GEAR_BITS != 0;
-        self.event(Event::GearOfList, gear && count == COUNT);
+        self.event(Event::GearOfList, gear && HEADS[1..].contains(&count));
         self.event(Event::GearOfCount, gear && count > COUNT);
-        self.event(Event::GearBelow67, gear && count < COUNT);
+        self.event(Event::GearBelow67, gear && count < HEADS[1]);
     }
 
     /// What a cycle gives.

@@ -1,7 +1,7 @@
 //! Damage at every layer: heads, forms, pieces, floats, ranges, ends, records, remarks, cuts.
 
 use super::{binary32, binary64, whole, Parts, Xorshift};
-use crate::machine_data::{range, COUNT, HEADS};
+use crate::machine_data::{range, HEADS};
 use crate::words;
 
 /// The bytes of a kit with one damage, or now and then with more.
@@ -34,7 +34,7 @@ fn damage_head(random: &mut Xorshift, parts: &mut Parts) {
         false => (&mut parts.head_b, &mut parts.list_b),
     };
     let right = words::head(list.len());
-    let other = words::head(HEADS[0] + COUNT - list.len());
+    let other = words::head(random.pick(&HEADS));
     *head = match random.below(10) {
         0 => vec![],
         1 => vec![right + 1],
@@ -45,11 +45,11 @@ fn damage_head(random: &mut Xorshift, parts: &mut Parts) {
         6 => vec![right, right],
         7 => vec![other],
         8 => vec![words::head(
-            random.pick(&[0, 50, 52, 59, 60, 65, 66, 68, 69, 255]),
+            random.pick(&[0, 50, 52, 59, 60, 65, 66, 68, 70, 72, 255]),
         )],
         _ => {
             // A list of as many data as another head says.
-            let count = random.pick(&[50, 52, 60, 66, 68]);
+            let count = random.pick(&[50, 52, 60, 66, 68, 70]);
             let last = list.last().cloned().unwrap_or_default();
             list.truncate(count);
             for number in list.len()..count {
@@ -65,7 +65,7 @@ fn damage_head(random: &mut Xorshift, parts: &mut Parts) {
 }
 
 /// The rows of the machine data, first and last datum of each.
-const ROWS: [(i64, i64); 18] = [
+const ROWS: [(i64, i64); 20] = [
     (0, 0),
     (1, 1),
     (2, 2),
@@ -84,13 +84,15 @@ const ROWS: [(i64, i64); 18] = [
     (35, 50),
     (51, 58),
     (59, 66),
+    (67, 67),
+    (68, 68),
 ];
 
 /// The number of a datum: its row first, so that each row has its turn.
 fn datum_number(random: &mut Xorshift) -> usize {
     let (first, last) = random.pick(&ROWS);
     match random.below(4) {
-        0 => random.pick(&[0, 1, 49, 50, 50, 51, 65, 66, 66]),
+        0 => random.pick(&[0, 1, 49, 50, 50, 51, 65, 66, 66, 67, 68, 68]),
         _ => random.between(first, last) as usize,
     }
 }

@@ -70,6 +70,8 @@ struct Habits {
     moves: usize,
     /// Percent of moves that go to a bound.
     bounds: usize,
+    /// Percent of cycles in which the axis idles about nx.
+    idles: usize,
     /// Percent of cycles in which the inputs change.
     changes: usize,
     /// Percent of cycles with an external stop, if the inputs change.
@@ -100,6 +102,7 @@ impl<'a> Driver<'a> {
         let habits = Habits {
             moves: random.pick(&[20, 40, 60]),
             bounds: random.pick(&[20, 50, 80]),
+            idles: random.pick(&[0, 0, 0, 0, 20, 60]),
             changes: random.pick(&[10, 25, 50]),
             stops: random.pick(&[0, 10, 30]),
             parts: if calm { 0 } else { random.pick(&[2, 6, 20]) },
@@ -175,6 +178,9 @@ impl<'a> Driver<'a> {
         if outside && self.random.percent(30) {
             return minus + (plus - minus) / 2;
         }
+        if self.random.percent(self.habits.idles) {
+            return self.idle().clamp(-100_000_000, 100_000_000) as i32;
+        }
         if !self.random.percent(self.habits.moves) {
             return self.position;
         }
@@ -240,6 +246,27 @@ impl<'a> Driver<'a> {
                     .pick(&[here, here + side * 150, here + side * 40, end])
             }
         }
+    }
+
+    /// A position whose step is just below, at or above nx, or nx plus its hysteresis.
+    fn idle(&mut self) -> i64 {
+        let channel = self.either();
+        let data = channel.data();
+        let (nx, hysteresis) = (data.get(number::NX), data.get(number::NX_HYSTERESIS));
+        let between = self.random.between(0, hysteresis.into()) as i32;
+        let speed = nx
+            + self
+                .random
+                .pick(&[0, 0, 0, hysteresis, hysteresis, between]);
+        let (numerator, denominator) = self.ratio(data);
+        // Rounded up: the slowest step that is not below.
+        let bound = data.times_t(speed) * denominator;
+        let bound = (bound + 60 * numerator - 1) / (60 * numerator);
+        let beside = self.random.pick(&[-1, -1, -1, 0, 0, 1]);
+        let here = i64::from(channel.previous().unwrap_or(self.position));
+        // Back and forth, so that it stays where it is.
+        let side = if here > 0 { -1 } else { 1 };
+        here + side * (bound + beside).max(0)
     }
 
     /// The longest step that some SG lets pass.

@@ -10,7 +10,7 @@ mod reached;
 pub use calls::{calls, Answer, Call, Channels, ReachedCalls, CHANNELS};
 pub use reached::Reached;
 
-use crate::machine_data::{lowest, range, COUNT, HEADS};
+use crate::machine_data::{lowest, range, HEADS};
 use crate::words;
 
 /// A seeded xorshift.
@@ -144,7 +144,7 @@ fn parts(random: &mut Xorshift, cycles: Option<usize>) -> Parts {
 }
 
 /// Machine data whose bounds lie close to each other, so that a short log can reach them; of
-/// either head.
+/// any head.
 fn data(random: &mut Xorshift) -> Vec<i32> {
     let head = random.pick(&HEADS);
     let mut data: Vec<i32> = (0..head).map(lowest).collect();
@@ -185,11 +185,15 @@ fn data(random: &mut Xorshift) -> Vec<i32> {
             33 => random.pick(&[0, 0, 0, 1, 50, 500, 1_000_000]),
             34 => random.pick(times),
             35..=50 => random.pick(&[1, 10, 50, 50, 99, 100, 100, 100]),
+            67 => random.pick(&[0, 0, 1, 5, 50, 500, 500, 1_000_000]),
+            68 => random.pick(&[0, 0, 1, 1, 2, 3, 5, 1000]),
             _ => random.pick(ratios),
         };
     }
-    if random.percent(4) {
-        at_range_ends(random, &mut data);
+    match random.below(100) {
+        0..=3 => at_range_ends(random, &mut data),
+        4..=7 => hardly_dividing(random, &mut data),
+        _ => (),
     }
     for (datum, number) in data.iter_mut().zip(0..) {
         let (low, high) = range(number);
@@ -217,6 +221,19 @@ fn at_range_ends(random: &mut Xorshift, data: &mut [i32]) {
     }
 }
 
+/// Limits, T and ratios that leave remainders, where something is divided that must not be.
+fn hardly_dividing(random: &mut Xorshift, data: &mut [i32]) {
+    for (number, datum) in data.iter_mut().enumerate() {
+        *datum = match number {
+            0 => random.pick(&[7, 11, 13]),
+            3..=6 => random.pick(&[997, 1997, 1999, 2003]),
+            51..=58 => random.pick(&[1, 1, 3]),
+            59..=66 => random.pick(&[991, 997]),
+            _ => continue,
+        };
+    }
+}
+
 /// Puts each SE minus below its plus.
 fn order_se(data: &mut [i32]) {
     for minus in [11, 13] {
@@ -237,11 +254,8 @@ fn other_data(random: &mut Xorshift, data_a: &[i32]) -> Vec<i32> {
         return data(random);
     }
     if random.percent(20) {
-        let head = if data_a.len() == COUNT {
-            HEADS[0]
-        } else {
-            COUNT
-        };
+        let at = HEADS.iter().position(|&head| head == data_a.len());
+        let head = HEADS[(at.unwrap_or(0) + random.pick(&[1, 2])) % HEADS.len()];
         data_b.resize(head, random.pick(&[1, 1, 2, 3]));
         return data_b;
     }

@@ -72,8 +72,17 @@ named! {
         CamRises: "a cam signal rises",
         CamFalls: "a cam signal falls",
         NxShows: "n<nx shows 1",
+        NxSet: "n<nx goes to 1 after its filter",
+        NxWaits: "n<nx stays 0 below nx, its run too short",
+        NxKept1: "n<nx stays 1 between nx and nx plus hysteresis",
+        NxKeptBelow: "n<nx stays 1 below nx, its run too short",
+        NxReset: "n<nx goes to 0 at nx plus hysteresis or more",
+        NxWithoutFunction: "n<nx goes to 1 with its function off",
+        UnusableNx: "unusable while n<nx is 1",
+        UnusableNxRun: "unusable while n<nx is 0 and its run is not",
         KWraps: "k follows 50 by 0",
         KWrapsAt66: "k follows 66 by 0",
+        KWrapsAt68: "k follows 68 by 0",
         Ratio: "a ratio other than 1 to 1",
         RatioChanges: "another ratio than in the cycle before",
         SgByRatio: "an SG is overstepped, or not, by the ratio",
@@ -91,6 +100,7 @@ named! {
         Binary64: "with a binary64",
         MinusZero: "with minus zero",
         Gears: "with a list headed 67",
+        NxData: "with a list headed 69",
         HeadsDiffer: "with unlike heads",
         ListsDiffer: "with unlike lists",
         Remarks: "with remarks",
@@ -197,7 +207,8 @@ impl Reached {
         };
         let (lists, log) = words.split_at(behind_a + behind_b);
         self.lists(lists);
-        self.kit(Kit::Gears, data_a.head() > HEADS[0]);
+        self.kit(Kit::Gears, data_a.head() == HEADS[1]);
+        self.kit(Kit::NxData, data_a.head() == HEADS[2]);
         self.kit(Kit::HeadsDiffer, data_a.head() != data_b.head());
         self.kit(Kit::ListsDiffer, data_a != data_b);
         self.kit(Kit::Remarks, log.len() as u64 > 7 * cycles);
@@ -266,6 +277,7 @@ impl Reached {
         let wraps = after.k() == 0;
         self.event(Event::KWraps, wraps && before.k() == 50);
         self.event(Event::KWrapsAt66, wraps && before.k() == 66);
+        self.event(Event::KWrapsAt68, wraps && before.k() == 68);
         if cycle.causes.stands(1) {
             self.unusable(before, other_unusable);
             let gear = after.data().head() == HEADS[0] && side.inputs & GEAR_BITS != 0;
@@ -279,6 +291,23 @@ impl Reached {
         self.event(Event::CamRises, is & !was != 0);
         self.event(Event::CamFalls, was & !is != 0);
         self.event(Event::NxShows, cycle.word >> 21 & 1 == 1);
+        self.nx(before, after);
+    }
+
+    /// What n<nx comes to in a usable cycle.
+    fn nx(&mut self, before: &Channel, after: &Channel) {
+        let (data, was, is) = (after.data(), before.nx(), after.nx());
+        let filtered = data.get(number::NX_FILTER) > 0;
+        let hysteresis = data.get(number::NX_HYSTERESIS) > 0;
+        let (is_1, is_0) = (was.value && is.value, !was.value && !is.value);
+        let short = is.run > 0 && is.run <= data.get(number::NX_FILTER).into();
+        self.event(Event::NxSet, filtered && !was.value && is.value);
+        self.event(Event::NxWaits, is_0 && short);
+        self.event(Event::NxKept1, is_1 && is.run == 0);
+        self.event(Event::NxKeptBelow, is_1 && short);
+        self.event(Event::NxReset, hysteresis && was.value && !is.value);
+        let off = !data.has(Paper, Function::Nx);
+        self.event(Event::NxWithoutFunction, off && !was.value && is.value);
     }
 
     /// What heads do, in a cycle of a channel beside another.
@@ -337,6 +366,9 @@ impl Reached {
         self.event(Event::UnusableHeld, before.stop().held.is_some());
         self.event(Event::UnusableWaiting, before.selections().count > 0);
         self.event(Event::UnusableF, before.f().on && before.f().count > 0);
+        let nx = before.nx();
+        self.event(Event::UnusableNx, nx.value);
+        self.event(Event::UnusableNxRun, !nx.value && nx.run > 0);
     }
 
     fn selection(&mut self, before: &Channel, after: &Channel) {

@@ -17,7 +17,7 @@ use std::process::{Command, ExitStatus, Stdio};
 use std::time::{Duration, Instant};
 
 /// The modules of a board: what a listing is made by.
-pub const MODULES: [&str; 12] = [
+pub const MODULES: [&str; 13] = [
     "words",
     "whole",
     "machine_data",
@@ -26,6 +26,7 @@ pub const MODULES: [&str; 12] = [
     "stop",
     "selection",
     "causes",
+    "nx",
     "channel",
     "device",
     "log",

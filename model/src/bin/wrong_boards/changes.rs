@@ -15,7 +15,7 @@ pub struct Change {
 
 /// States of a channel, in the words of each source: a wrong board looks at something, or does
 /// something, only in one of them, or only out of it.
-const STATES: [(&str, &[&str]); 4] = [
+const STATES: [(&str, &[&str]); 5] = [
     (
         "channel.rs",
         &[
@@ -41,6 +41,8 @@ const STATES: [(&str, &[&str]); 4] = [
             "inputs == report.inputs",
             "usable(r, &self.data, report.position, report.inputs)",
             "inputs & GEAR_BITS == 0",
+            "self.nx.value",
+            "self.nx.run > 0",
         ],
     ),
     (
@@ -70,6 +72,21 @@ const STATES: [(&str, &[&str]); 4] = [
             "self.on",
             "self.count > 0",
             "self.0 > 0",
+        ],
+    ),
+    (
+        "nx.rs",
+        &[
+            "self.value",
+            "self.run > 0",
+            "moment.d == 0",
+            "moment.d < 0",
+            "moment.position < 0",
+            "moment.k == 0",
+            "moment.selected == Selection::Nothing",
+            "moment.inputs & GEAR_BITS == 0",
+            "moment.inputs == moment.report.inputs",
+            "data.has(r, Function::Nx)",
         ],
     ),
     (

@@ -59,6 +59,13 @@ static size_t make(uint32_t call, const uint32_t *in, size_t n, uint32_t *answer
     case 7: /* like: two channels */
         answer[0] = memcmp(x, y, sizeof *x) == 0;
         return 1;
+    case 8: /* state: channel, word */
+        answer[0] = x->state[in[1] % MONITOR_STATE];
+        return 1;
+    case 9: /* put: channel, word, value */
+        x->state[in[1] % MONITOR_STATE] = in[2];
+        *may = 1u << in[0];
+        return 0;
     }
     return NUMBERS; /* a call that is not known agrees with nothing */
 }

@@ -6,11 +6,11 @@
 #include <stddef.h>
 #include <stdint.h>
 
-#define MONITOR_INTERFACE 3 /* the number of this interface, which monitor_interface() must answer */
+#define MONITOR_INTERFACE 4 /* the number of this interface, which monitor_interface() must answer */
 
 /* How long the lent arrays are. */
-#define MONITOR_DATA 67   /* machine data of a channel, by their numbers; a shorter list leaves the places behind its data 0 */
-#define MONITOR_STATE 17  /* words of a channel's state */
+#define MONITOR_DATA 69   /* machine data of a channel, by their numbers; a shorter list leaves the places behind its data 0 */
+#define MONITOR_STATE 19  /* words of a channel's state */
 #define MONITOR_REPORT 4  /* words of a report */
 #define MONITOR_CODES 13  /* cause codes of a cycle */
 #define MONITOR_TOLD 3    /* numbers that tell a kit's refusal */
@@ -25,7 +25,7 @@ typedef struct monitor_channel {
 } monitor_channel;
 
 /* Words of a state; signed numbers stand in two's complement. */
-#define MONITOR_STATE_COUNT 0         /* how many data the list has, 51 or 67; 0: no list */
+#define MONITOR_STATE_COUNT 0         /* how many data the list has, 51, 67 or 69; 0: no list */
 #define MONITOR_STATE_K 1             /* number of the datum that it reports next */
 #define MONITOR_STATE_HAS_PREVIOUS 2  /* 1 if there is a previous position */
 #define MONITOR_STATE_PREVIOUS 3      /* the previous position, signed */
@@ -42,6 +42,8 @@ typedef struct monitor_channel {
 #define MONITOR_STATE_RANK 14         /* the stop's rank, while braking or held */
 #define MONITOR_STATE_REST 15         /* cycles left while braking; the hold's reference, signed, while held */
 #define MONITOR_STATE_CAMS 16         /* cam signals, SN1+ in bit 0 */
+#define MONITOR_STATE_NX 17           /* 1 if n<nx is 1; kept while its function is off and in unusable cycles too */
+#define MONITOR_STATE_NX_RUN 18       /* usable cycles running in which the speed was below nx, not counted past 1,001 */
 
 #define MONITOR_NOTHING 0   /* nothing is effective */
 #define MONITOR_SG 1        /* an SG is effective */
@@ -70,7 +72,7 @@ typedef struct monitor_channel {
 #define MONITOR_IN_OVERRIDE 0xf0000000u   /* override number */
 #define MONITOR_IN_OVERRIDE_AT 28         /* its lowest bit */
 #define MONITOR_IN_BITS 0xf03c101bu       /* all of these: what an input word may have with a list of 51 data */
-#define MONITOR_IN_GEAR 0x00000700u       /* number of the gear ratio, with a list of 67 data; must be 0 with one of 51 */
+#define MONITOR_IN_GEAR 0x00000700u       /* number of the gear ratio, with a list of 67 or 69 data; must be 0 with one of 51 */
 #define MONITOR_IN_GEAR_AT 8              /* its lowest bit; every bit that is not named must be 0 */
 
 /* Bits of a channel word. */
@@ -81,7 +83,7 @@ typedef struct monitor_channel {
 #define MONITOR_WORD_CAMS_AT 8             /* their lowest bit */
 #define MONITOR_WORD_SG 0x00180000u        /* effective SG less one */
 #define MONITOR_WORD_SG_AT 19              /* its lowest bit */
-#define MONITOR_WORD_NX 0x00200000u        /* n<nx */
+#define MONITOR_WORD_NX 0x00200000u        /* n<nx; 0 while its function is off and in an unusable cycle */
 #define MONITOR_WORD_RANK 0x07000000u      /* rank */
 #define MONITOR_WORD_RANK_AT 24            /* its lowest bit */
 #define MONITOR_WORD_HELD 0x08000000u      /* held */
@@ -125,9 +127,11 @@ typedef struct monitor_channel {
 #define MONITOR_REFUSED_LOG 6    /* log too long, or a word missing or wrong */
 #define MONITOR_REFUSED_OUTPUT 7 /* output below 3 words a cycle */
 
-#define MONITOR_DATUM_T 0            /* number of the datum T, the cycle in ms */
-#define MONITOR_DATUM_NUMERATOR 51   /* number of the first gear ratio's numerator; the others follow it */
-#define MONITOR_DATUM_DENOMINATOR 59 /* number of its denominator */
+#define MONITOR_DATUM_T 0              /* number of the datum T, the cycle in ms */
+#define MONITOR_DATUM_NUMERATOR 51     /* number of the first gear ratio's numerator; the others follow it */
+#define MONITOR_DATUM_DENOMINATOR 59   /* number of its denominator */
+#define MONITOR_DATUM_NX_HYSTERESIS 67 /* number of the hysteresis of n<nx, in mm/min */
+#define MONITOR_DATUM_NX_FILTER 68     /* number of the filter of n<nx, in cycles */
 
 #ifdef __cplusplus
 #define MONITOR_HOLDS(fact) static_assert(fact, #fact)
@@ -139,8 +143,8 @@ extern "C" {
 #ifndef MONITOR_OWN_BOARD /* a fact of the archives, not of a board that is tried with this header */
 MONITOR_HOLDS(sizeof(size_t) == 8);
 #endif
-MONITOR_HOLDS(sizeof(monitor_channel) == 336);
-MONITOR_HOLDS(offsetof(monitor_channel, state) == 268);
+MONITOR_HOLDS(sizeof(monitor_channel) == 352);
+MONITOR_HOLDS(offsetof(monitor_channel, state) == 276);
 
 /* The number of the library's interface. */
 uint32_t monitor_interface(void);

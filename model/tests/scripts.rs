@@ -114,6 +114,9 @@ impl<const N: u32> Board for Wrong<N> {
                 data[head..].copy_from_slice(&before.data()[head..]);
                 *channel = Lent::of(data, *channel.state());
             }
+            // Value or run of n<nx stay under a new list.
+            54 if answer.is_ok() => set(channel, word::NX, before.state()[word::NX]),
+            55 if answer.is_ok() => set(channel, word::NX_RUN, before.state()[word::NX_RUN]),
             _ => (),
         }
         answer
@@ -128,6 +131,8 @@ impl<const N: u32> Board for Wrong<N> {
             5 => report[0] = ((report[0] << 4) as i32 >> 4) as u32,
             // The head is always 51.
             41 => report[3] = 51,
+            // A list of 69 data reports 67.
+            56 => report[3] = report[3].min(67),
             _ => (),
         }
         report
@@ -200,7 +205,16 @@ impl<const N: u32> Board for Wrong<N> {
         if !unusable && old[word::F] == 1 {
             by_what_is_active::<N>(channel, &old, &mut cycle);
         }
+        by_nx::<N>(channel, &old, unusable);
         cycle
+    }
+
+    fn state(channel: &Lent, word: usize) -> u32 {
+        Model::state(channel, word)
+    }
+
+    fn put(channel: &mut Lent, word: usize, value: u32) {
+        Model::put(channel, word, value)
     }
 
     fn device(a: u32, b: u32) -> u32 {
@@ -228,12 +242,15 @@ impl<const N: u32> Board for Wrong<N> {
             37 => (renew(a), renew(b)),
             38 => (set(a, word::HAS_PREVIOUS, 0), set(b, word::HAS_PREVIOUS, 0)),
             39 => (set(b, word::K, a.state()[word::K]), ()),
+            // It forgets value or run of n<nx.
+            57 => (set(a, word::NX, 0), set(b, word::NX, 0)),
+            58 => (set(a, word::NX_RUN, 0), set(b, word::NX_RUN, 0)),
             _ => ((), ()),
         };
         let answer = Model::log(a, b, words, output);
         let refusal = |number, place| Err(Refusal { number, place });
         match (N, answer) {
-            (37..=39, Err(_)) => (*a, *b) = before,
+            (37..=39 | 57 | 58, Err(_)) => (*a, *b) = before,
             // Cycles wanted, not words.
             (16, Err(Refusal { number: 7, place })) => return refusal(7, place / 3),
             // Words lacking.
@@ -313,6 +330,45 @@ fn by_what_is_active<const N: u32>(channel: &mut Lent, old: &[u32], cycle: &mut 
     }
 }
 
+/// Wrong boards by what is kept of n<nx and no word shows at once.
+fn by_nx<const N: u32>(channel: &mut Lent, old: &[u32], unusable: bool) {
+    let on = channel.data()[1] & 8 != 0;
+    let filter = channel.data()[68] as u32;
+    let (value, run) = (channel.state()[word::NX], channel.state()[word::NX_RUN]);
+    match N {
+        // With the function off value or run stay, or are 0; or an unusable cycle ends them.
+        59 if !on => set(channel, word::NX, old[word::NX]),
+        60 if !on => set(channel, word::NX_RUN, old[word::NX_RUN]),
+        61 if !on => set(channel, word::NX, 0),
+        62 if !on => set(channel, word::NX_RUN, 0),
+        63 if !on && unusable => set(channel, word::NX, 0),
+        64 if !on && unusable => set(channel, word::NX_RUN, 0),
+        // The run stops one past datum 68, ends where n<nx is 1, or is counted on for ever.
+        65 => set(channel, word::NX_RUN, run.min(filter + 1)),
+        66 if value == 1 => set(channel, word::NX_RUN, 0),
+        67 if run == 1_001 && !unusable => {
+            set(channel, word::NX_RUN, old[word::NX_RUN].wrapping_add(1))
+        }
+        // The run is cut by an unusable cycle, or stops at 1,000 with a filter below.
+        68 if unusable => set(channel, word::NX_RUN, run.min(1_001)),
+        69 if filter < 1_000 => set(channel, word::NX_RUN, run.min(1_000)),
+        // Of a word only bit 0 counts; a run by its lowest 16 bits.
+        70 if old[word::NX] & 1 == 0 && run <= filter => set(channel, word::NX, 0),
+        71 if old[word::NX_RUN] > 0xffff && run == 1_001 => {
+            set(channel, word::NX_RUN, (old[word::NX_RUN] & 0xffff) + 1)
+        }
+        // The words are left as they are where the value is.
+        72 if value == 1 && old[word::NX] > 1 => set(channel, word::NX, old[word::NX]),
+        // A cycle under STOP A leaves the run.
+        73 if old[word::STOP] == 3 && !unusable && value == 1 => {
+            set(channel, word::NX_RUN, old[word::NX_RUN])
+        }
+        // The run begins anew where n<nx goes to 1.
+        74 if value == 1 && old[word::NX] == 0 => set(channel, word::NX_RUN, 1),
+        _ => (),
+    }
+}
+
 /// Puts a code behind those that stand.
 fn list_code(cycle: &mut Cycle, code: u8) {
     if let Some(place) = cycle.codes.iter_mut().find(|place| **place == 0) {
@@ -357,7 +413,8 @@ fn untold(scripts: &[Script]) -> Vec<u32> {
         ($($n:literal)*) => { [$(($n, told::<Wrong<$n>>(scripts).len())),*] };
     }
     let told = of!(0 1 2 3 4 5 6 7 8 9 10 11 12 13 14 15 16 17 18 19 20 21 22 23 24 25 26 27 28 29
-        30 31 32 33 34 35 36 37 38 39 40 41 42 43 44 45 46 47 48 49 50 51 52 53);
+        30 31 32 33 34 35 36 37 38 39 40 41 42 43 44 45 46 47 48 49 50 51 52 53 54 55 56 57 58 59
+        60 61 62 63 64 65 66 67 68 69 70 71 72 73 74);
     assert_eq!(told[0], (0, 0));
     let untold = told[1..].iter().filter(|(_, scripts)| *scripts == 0);
     untold.map(|(board, _)| *board).collect()
@@ -470,12 +527,12 @@ fn a_text_that_is_no_script_is_refused() {
             "line 4: '51' is not a datum's number from 0 to 50",
         ),
         (
-            "list X of 67 data -> accepted 202\n  67 = 1",
-            "line 3: '67' is not a datum's number from 0 to 66",
+            "list X of 69 data -> accepted 208\n  69 = 1",
+            "line 3: '69' is not a datum's number from 0 to 68",
         ),
         (
-            "list X of 68 data -> accepted 205",
-            "line 2: '68' is not a number of data from 1 to 67",
+            "list X of 70 data -> accepted 211",
+            "line 2: '70' is not a number of data from 1 to 69",
         ),
         (
             "list X -> accepted 154\n  0 = 1 -> 1",

@@ -60,6 +60,17 @@ pub enum Call {
         one: usize,
         other: usize,
     },
+    /// A word of a channel's state, as the library lays it out.
+    State {
+        of: usize,
+        word: usize,
+    },
+    /// The caller writes such a word.
+    Put {
+        of: usize,
+        word: usize,
+        value: u32,
+    },
 }
 
 /// The report that a cycle is given.

@@ -19,6 +19,8 @@ fn number(call: &Call) -> u32 {
         Call::Log { .. } => 5,
         Call::Copy { .. } => 6,
         Call::Like { .. } => 7,
+        Call::State { .. } => 8,
+        Call::Put { .. } => 9,
     }
 }
 

@@ -1,6 +1,7 @@
 //! From a script's text to its calls.
 
 use super::{Call, Given, Script, Step, MARK};
+use crate::channel::image;
 use crate::kit::assemble::{self, expect, integer, next, word, Tokens};
 use crate::kit::input_words::InputWord;
 use crate::kit::{Fault, Stated};
@@ -9,8 +10,8 @@ use crate::words;
 use std::collections::BTreeMap;
 
 /// The words that begin a call; a line that begins with another belongs to the call above it.
-const CALLS: [&str; 8] = [
-    "list", "lists", "report", "cycle", "device", "log", "copy", "like",
+const CALLS: [&str; 10] = [
+    "list", "lists", "report", "cycle", "device", "log", "copy", "like", "state", "put",
 ];
 
 /// The most that one line may be repeated.
@@ -259,10 +260,16 @@ impl Reading {
                 if let Some(&stated) = self.stated.get(&from) {
                     self.stated.insert(to, stated);
                 }
-                match answer {
-                    None => Ok((Call::Copy { from, to }, vec![])),
-                    Some(_) => Err("this call has no answer".into()),
-                }
+                no_answer(Call::Copy { from, to }, answer)
+            }
+            "state" => {
+                let (of, word) = (self.channel(tokens)?, state_word(tokens)?);
+                Ok((Call::State { of, word }, vec![value(wanted(answer)?)?]))
+            }
+            "put" => {
+                let (of, word) = (self.channel(tokens)?, state_word(tokens)?);
+                let value = value(next(tokens, WORD)?)?;
+                no_answer(Call::Put { of, word, value }, answer)
             }
             _ => {
                 let (one, other) = (self.channel(tokens)?, self.channel(tokens)?);
@@ -361,7 +368,27 @@ fn report(tokens: &mut Tokens) -> Result<[u32; 4], String> {
     Ok([position as u32, inputs, datum as u32, head as u32])
 }
 
+/// `NX_RUN`: a word of a state by its name in the header.
+fn state_word(tokens: &mut Tokens) -> Result<usize, String> {
+    let name = next(tokens, "a word of a state")?;
+    let word = image::NAMES.iter().position(|known| *known == name);
+    word.ok_or(format!("'{name}' is no word of a state"))
+}
+
+const WORD: &str = "a word of 32 bits";
+
+fn value(text: &str) -> Result<u32, String> {
+    integer(text, 0, u32::MAX.into(), WORD).map(|value| value as u32)
+}
+
 // ---- answers
+
+fn no_answer(call: Call, answer: Option<&str>) -> Result<(Call, Vec<u32>), String> {
+    match answer {
+        None => Ok((call, vec![])),
+        Some(_) => Err("this call has no answer".into()),
+    }
+}
 
 fn tokens(text: &str) -> Vec<String> {
     let text = text.replace(',', " ");

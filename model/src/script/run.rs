@@ -42,6 +42,12 @@ pub trait Board {
         words: &[u32],
         output: &mut [u32],
     ) -> Result<usize, Refusal>;
+
+    /// A word of its state.
+    fn state(channel: &Self::Channel, word: usize) -> u32;
+
+    /// Such a word, written by the caller.
+    fn put(channel: &mut Self::Channel, word: usize, value: u32);
 }
 
 /// The model.
@@ -106,6 +112,16 @@ impl Board for Model {
     ) -> Result<usize, Refusal> {
         image::run_log(a, b, words, output)
     }
+
+    fn state(channel: &Lent, word: usize) -> u32 {
+        channel.state()[word]
+    }
+
+    fn put(channel: &mut Lent, word: usize, value: u32) {
+        let mut state = *channel.state();
+        state[word] = value;
+        *channel = Lent::of(*channel.data(), state);
+    }
 }
 
 /// The proved monitor.
@@ -153,6 +169,14 @@ impl Board for Proved {
         output: &mut [u32],
     ) -> Result<usize, Refusal> {
         crate::proved::run_log(a, b, words, output)
+    }
+
+    fn state(channel: &Self::Channel, word: usize) -> u32 {
+        channel.state[word]
+    }
+
+    fn put(channel: &mut Self::Channel, word: usize, value: u32) {
+        channel.state[word] = value;
     }
 }
 
@@ -285,6 +309,19 @@ fn make<B: Board>(channels: &mut [B::Channel], call: &Call) -> Done {
             answer: vec![(channels[one] == channels[other]).into()],
             may_change: vec![],
         },
+        Call::State { of, word } => Done {
+            given: vec![of as u32, word as u32],
+            answer: vec![B::state(&channels[of], word)],
+            may_change: vec![],
+        },
+        Call::Put { of, word, value } => {
+            B::put(&mut channels[of], word, value);
+            Done {
+                given: vec![of as u32, word as u32, value],
+                answer: vec![],
+                may_change: vec![of],
+            }
+        }
     }
 }
 
@@ -348,7 +385,8 @@ fn text(call: &Call, answer: &[u32]) -> String {
             [] => String::new(),
         },
         Call::Device { .. } => format!("{:x}", answer[0]),
-        Call::Copy { .. } => "nothing".into(),
+        Call::Copy { .. } | Call::Put { .. } => "nothing".into(),
+        Call::State { .. } => answer[0].to_string(),
         Call::Like { .. } => match answer {
             [0] => "no".into(),
             _ => "yes".into(),

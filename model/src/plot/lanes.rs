@@ -1,7 +1,7 @@
 //! The lanes of a picture: which there are, and what each shows.
 
 use super::trace::{Channelled, Gear, Seen};
-use crate::machine_data::{number, MachineData};
+use crate::machine_data::{number, Function, MachineData, HEADS};
 use crate::selection::Selection;
 use crate::stop::Rank;
 use crate::Paper;
@@ -247,7 +247,7 @@ fn cam(side: &Side) -> Option<Guide> {
     })
 }
 
-/// The speed |d|, times the ratio where there is one, and the limit in force.
+/// The speed |d|, times the ratio where there is one, with the limit in force, and nx with its hysteresis.
 fn speed(side: &Side) -> Option<Lane> {
     let speeds = each(side, |cycle| cycle.d.map(|d| hundredths(cycle, d)));
     let limits = each(side, limit);
@@ -265,11 +265,38 @@ fn speed(side: &Side) -> Option<Lane> {
         true => lane.with(Style::Broad, "limit in force", [limits]),
         false => lane,
     };
+    let lane = nx_bounds(side)
+        .into_iter()
+        .fold(lane, |lane, (name, bound)| {
+            lane.with(Style::Guide, &name, [vec![Some(bound); side.len()]])
+        });
     let name = match geared(side) {
         true => "|d| × ratio",
         false => "|d|",
     };
     Some(lane.with(Style::Plain, name, [speeds]))
+}
+
+/// Whether these cycles show n<nx by a list that has its hysteresis and its filter.
+fn shows_nx(side: &Side) -> bool {
+    let data = side.first().map(|cycle| cycle.after.data());
+    data.is_some_and(|data| data.head() == HEADS[2] && data.has(Paper, Function::Nx))
+}
+
+/// nx, and nx plus hysteresis if that is another, as hundredths of mm/min.
+fn nx_bounds(side: &Side) -> Vec<(String, i64)> {
+    let Some(first) = side.first().filter(|_| shows_nx(side)) else {
+        return Vec::new();
+    };
+    let of = |number: usize| i64::from(first.after.data().get(number));
+    let (nx, hysteresis) = (of(number::NX), of(number::NX_HYSTERESIS));
+    let sum = (
+        format!("+ hysteresis {hysteresis}"),
+        100 * (nx + hysteresis),
+    );
+    let nx = (format!("nx {nx}"), 100 * nx);
+    let bounds = [nx, sum].into_iter();
+    bounds.take(1 + usize::from(hysteresis > 0)).collect()
 }
 
 /// Whether some cycle has a ratio other than 1 to 1.
@@ -464,13 +491,22 @@ fn device(seen: &[Seen]) -> Option<Lane> {
     rows("device", device)
 }
 
-/// The signals that change: cams and n<nx as the channel word shows them.
+/// The signals that change: cams and n<nx as the channel word shows them; and the run of n<nx.
 fn signals(side: &Side) -> Option<Lane> {
     let row = |signal: usize| {
         let (name, bit) = SIGNALS[signal];
         bars(name, shown(side, bit))
     };
-    rows("signals", changing_signals(side).filter_map(row).collect())
+    let mut signals: Vec<Row> = changing_signals(side).filter_map(row).collect();
+    if shows_nx(side) {
+        let run = |cycle: &Channelled| cycle.d.map(|_| cycle.after.nx().run);
+        let filter = side
+            .first()
+            .map(|cycle| cycle.after.data().get(number::NX_FILTER));
+        let label = format!("run, filter {}", filter.unwrap_or(0));
+        signals.extend(numbers(&label, each(side, run)));
+    }
+    rows("signals", signals)
 }
 
 /// The numbers of the signals that change.

@@ -195,15 +195,24 @@ impl Channel {
             UnusableKeepsPrevious => self.previous,
             UnusableBecomesPrevious => Some(position));
         self.selections.unusable(r);
-        self.nx.unusable(r, &self.data);
         paper!(r, (),
-            UnusableAcknowledged => if acknowledged { self.stop.clear(r) },
-            UnusableFOff => self.f = F::OFF,
-            UnusableDatumSetsF => if self.data.get(self.k) != report.datum { self.f.on = true },
-            UnusableRunEnds => self.run = Run(0),
-            UnusableRunCounts => if inputs != report.inputs { self.run.0 += 1 },
-            UnusableCamsOff => self.cams = [false; 8],
-            UnusableCamsWorkedOut => self.move_cams(r, position));
+        UnusableAcknowledged => if acknowledged { self.stop.clear(r) },
+        UnusableFOff => self.f = F::OFF,
+        UnusableDatumSetsF => if self.data.get(self.k) != report.datum { self.f.on = true },
+        UnusableRunEnds => self.run = Run(0),
+        UnusableRunCounts => if inputs != report.inputs { self.run.0 += 1 },
+        UnusableCamsOff => self.cams = [false; 8],
+        UnusableCamsWorkedOut => self.move_cams(r, position),
+        UnusableNxTo0 => self.nx.value = false,
+        UnusableNxTo1 => self.nx.value = true,
+        UnusableNxAsFresh => self.nx = Nx::fresh(r),
+        UnusableNxRunEnds => self.nx.run = 0,
+        UnusableNxRunCounts => self.nx.run += 1,
+        UnusableNxRunFalls => self.nx.run = (self.nx.run - 1).max(0),
+        UnusableNxWorkedOut => {
+            self.nx.run += 1;
+            self.nx.value |= self.nx.run > i64::from(self.data.get(number::NX_FILTER));
+        });
         let word = self.word(r, Selection::of(r, &self.data, inputs), inputs, None);
         paper!(r, (), UnusableIsPassing => self.stop = before);
         Cycle {
@@ -399,7 +408,6 @@ impl Channel {
         paper!(r, moment.is_some() && self.nx.value,
             UnusableNxShown => moment.is_none() || self.nx.value,
             UnusableNxValueShown => self.nx.value,
-            NxShowsFilteredAlone => moment.is_some() && self.nx.run > i64::from(self.data.get(number::NX_FILTER)),
             NxNeedsPrevious => self.previous.is_some() && moment.is_some() && self.nx.value)
     }
 

@@ -607,13 +607,10 @@ deviations! {
     NxFilterInMs: "datum 68 is taken in milliseconds", "W3: Data 67 (0 to 1,000,000 mm/min) and 68 (0 to 1,000 cycles) are added.";
     NxFilteredTo0: "the filter holds up going to 0 as well", "W3: The signal goes to 0 where speed is nx plus hysteresis or more.";
     NxNeverTo0: "n<nx never goes back to 0", "W3: The signal goes to 0 where speed is nx plus hysteresis or more.";
-    NxBetweenIs0: "between nx and nx plus hysteresis n<nx is 0", "W3: In between it keeps its value, fresh 0.";
     NxBetweenIs1: "between nx and nx plus hysteresis n<nx is 1", "W3: In between it keeps its value, fresh 0.";
     NxShortRunIs0: "below nx with too short a run n<nx is 0", "W3: In between it keeps its value, fresh 0.";
-    NxShowsFilteredAlone: "n<nx shows just where its run is over datum 68", "W3: In between it keeps its value, fresh 0.";
     NxRunStopsAt1000: "the run of n<nx is not counted past 1,000", "W3: It goes to 1 after the speed has been below nx in more than datum 68 usable cycles running.";
     NxRunStopsAtFilter: "the run of n<nx is not counted past datum 68", "W3: It goes to 1 after the speed has been below nx in more than datum 68 usable cycles running.";
-    NxRunGoesRound: "the run of n<nx begins anew behind 1,000", "W3: It goes to 1 after the speed has been below nx in more than datum 68 usable cycles running.";
     NxRunNotEnded: "the run of n<nx is never ended", "W3: It goes to 1 after the speed has been below nx in more than datum 68 usable cycles running.";
     NxRunFalls: "the run of n<nx falls by one where the speed is not below nx", "W3: It goes to 1 after the speed has been below nx in more than datum 68 usable cycles running.";
     NxRunEndedAboveOnly: "the run of n<nx ends only at nx plus hysteresis", "W3: It goes to 1 after the speed has been below nx in more than datum 68 usable cycles running.";

@@ -8,7 +8,7 @@ use crate::machine_data::{number, MachineData};
 /// The run is not counted past this: "more than datum 68 usable cycles", and datum 68 is at most 1,000.
 pub const LONGEST: i64 = 1_001;
 
-/// What a channel keeps of the signal.
+/// What a channel keeps of the signal: "An unusable cycle shows 0 and leaves value and run as they were."
 #[derive(Clone, Copy, Debug, PartialEq, Eq)]
 pub struct Nx {
     /// "In between it keeps its value, fresh 0."
@@ -22,10 +22,11 @@ pub struct Nx {
 impl Nx {
     /// "fresh 0"
     pub fn fresh<R: Reading>(r: R) -> Nx {
-        Nx::of(
-            paper!(r, false, NxFresh1 => true),
-            paper!(r, 0, NxRunFresh1 => 1),
-        )
+        Nx {
+            value: paper!(r, false, NxFresh1 => true),
+            run: paper!(r, 0, NxRunFresh1 => 1),
+            above: 0,
+        }
     }
 
     /// A value and a run as they were kept.
@@ -51,7 +52,6 @@ impl Nx {
             NxFilterIgnored => run > 0,
             NxFilterInMs => run * i64::from(data.get(number::T)) > filter);
         let kept = paper!(r, self.value,
-            NxBetweenIs0 => self.value && self.run > 0,
             NxBetweenIs1 => self.value || self.run == 0,
             NxShortRunIs0 => self.value && self.run == 0);
         self.value = paper!(r, !above && (long || kept),
@@ -65,8 +65,7 @@ impl Nx {
         let next = (self.run + 1).min(LONGEST);
         let next = paper!(r, next,
             NxRunStopsAt1000 => next.min(1_000),
-            NxRunStopsAtFilter => next.min(filter(r, data)),
-            NxRunGoesRound => next % LONGEST);
+            NxRunStopsAtFilter => next.min(filter(r, data)));
         self.run = if is_below(r, data, moment) {
             next
         } else {
@@ -76,22 +75,6 @@ impl Nx {
                 NxRunEndedAboveOnly => if above { 0 } else { self.run })
         };
         paper!(r, (), NxFilteredTo0 => self.above = if above { self.above + 1 } else { 0 });
-    }
-
-    /// "An unusable cycle shows 0 and leaves value and run as they were."
-    #[inline]
-    pub fn unusable<R: Reading>(&mut self, r: R, data: &MachineData) {
-        paper!(r, (),
-        UnusableNxRunEnds => self.run = 0,
-        UnusableNxRunCounts => self.run = (self.run + 1).min(LONGEST),
-        UnusableNxRunFalls => self.run = (self.run - 1).max(0),
-        UnusableNxTo0 => self.value = false,
-        UnusableNxTo1 => self.value = true,
-        UnusableNxAsFresh => *self = Nx::fresh(r),
-        UnusableNxWorkedOut => {
-            self.run = (self.run + 1).min(LONGEST);
-            self.value |= self.run > filter(r, data)
-        })
     }
 }
 

@@ -83,8 +83,13 @@ fn a_cycle_takes_any_numbers() {
         MachineData::lowest(51),
         highest(""),
         highest(" of 67 data"),
+        highest(" of 69 data"),
         data(&[(0, 25), (1, 31), (27, 3), (28, 2)]),
         data_of(67, &[(1, 31), (51, 1000), (59, 7), (53, 3), (61, 1000)]),
+        data_of(
+            69,
+            &[(1, 31), (25, 600), (51, 1000), (59, 7), (67, 300), (68, 2)],
+        ),
     ] {
         for deviation in [None]
             .into_iter()

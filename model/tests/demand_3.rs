@@ -133,7 +133,7 @@ fn calls(seed: u64) -> Option<(Channel, Vec<Seen>)> {
                     position: random.next() as i32,
                     inputs: random.next() as u32,
                     datum: 0,
-                    head: [51, 67, 0][random.below(3) as usize],
+                    head: [51, 67, 69, 0][random.below(4) as usize],
                 },
                 _ => working.report(position, inputs),
             };

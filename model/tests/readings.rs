@@ -2,7 +2,7 @@
 //! worked out by hand, and that the kit tells the other reading apart.
 
 mod common;
-use common::{bytes, data};
+use common::{bytes, data, data_of};
 use model::Deviation::*;
 use model::{listing, Channel, Deviant, Deviation};
 
@@ -630,4 +630,184 @@ fn code_13_is_absent_while_nothing_is_active() {
     let near = channel.report(0, 1);
     let off = channel.cycle(0, 1, false, near);
     assert_eq!((off.word, off.causes.codes()), (0x1400_0080, &[][..]));
+}
+
+/// Lists with nx 600, hysteresis 300 and filter 2; T is 12, so nx is a step of 120, and 180 with the hysteresis.
+const NX: &str = "lists A and B of 69 data; 0 = 12; 1 = 8; 25 = 600; 67 = 300; 68 = 2; log";
+
+#[test]
+fn the_present_cycle_counts_in_the_run_of_nx() {
+    row(
+        &format!("{NX}; both 0 off; both 119 off; both 119 off"),
+        "1 00000080 00000080 1
+         2 00000080 00000080 1
+         3 00200080 00200080 1",
+        &[
+            NxThisCycleNotCounted,
+            NxFilterAtLeast,
+            NxFilterOneMore,
+            NxWaitsForPrevious,
+            NxRunFresh1,
+        ],
+    );
+}
+
+#[test]
+fn nx_plus_hysteresis_itself_is_not_below_it() {
+    row(
+        "lists A and B of 69 data; 0 = 12; 1 = 8; 25 = 600; 67 = 300; log; both 0 off; both 179 off; both 359 off",
+        "1 00200080 00200080 1
+         2 00200080 00200080 1
+         3 00000080 00000080 1",
+        &[
+            NxTo0Above,
+            NxHysteresisIgnored,
+            NxHysteresisBelow,
+            NxHysteresisHalved,
+        ],
+    );
+}
+
+#[test]
+fn going_to_0_waits_for_no_filter() {
+    row(
+        &format!("{NX}; both 0 off times 3; both 180 off"),
+        "1 00000080 00000080 1
+         2 00000080 00000080 1
+         3 00200080 00200080 1
+         4 00000080 00000080 1",
+        &[NxFilteredTo0, NxNeverTo0],
+    );
+}
+
+#[test]
+fn between_the_run_of_nx_ends_and_the_value_stays() {
+    row(
+        &format!("{NX}; both 0 off times 2; both 150 off; both 150 off times 3; both 300 off; both 300 off"),
+        "1 00000080 00000080 1
+         2 00000080 00000080 1
+         3 00000080 00000080 1
+         4 00000080 00000080 1
+         5 00000080 00000080 1
+         6 00200080 00200080 1
+         7 00200080 00200080 1
+         8 00200080 00200080 1",
+        &[
+            NxBetweenIs1,
+            NxShortRunIs0,
+            NxRunNotEnded,
+            NxRunFalls,
+            NxRunEndedAboveOnly,
+            NxTo1BelowSum,
+        ],
+    );
+}
+
+#[test]
+fn an_unusable_cycle_leaves_value_and_run_of_nx() {
+    row(
+        &format!("{NX}; both 0 off times 2; both 0 off bit 2; both 0 off; both 150 off; both 0 off bit 2; both 0 off"),
+        "1 00000080 00000080 1
+         2 00000080 00000080 1
+         3 05000084 05000084 a
+         4 05200084 05200084 a
+         5 05200084 05200084 a
+         6 05000084 05000084 a
+         7 05200084 05200084 a",
+        &[
+            UnusableNxRunEnds,
+            UnusableNxRunFalls,
+            UnusableNxTo0,
+            UnusableNxAsFresh,
+            UnusableNxValueShown,
+        ],
+    );
+    row(
+        &format!("{NX}; both 0 off; both 0 off bit 2; both 0 off; both 0 off"),
+        "1 00000080 00000080 1
+         2 05000084 05000084 a
+         3 05000084 05000084 a
+         4 05200084 05200084 a",
+        &[UnusableNxRunCounts, UnusableNxWorkedOut, UnusableNxTo1],
+    );
+}
+
+#[test]
+fn no_stop_and_no_acknowledgement_changes_nx() {
+    row(
+        "lists A and B of 69 data; 0 = 12; 1 = 24; 25 = 600; 67 = 300; 68 = 1; log
+         both 0 off stop-A; both 0 off no-stop ack; both 150 off stop-A; both 300 off no-stop ack",
+        "1 05000084 05000084 a
+         2 00200080 00200080 1
+         3 05200084 05200084 a
+         4 00200080 00200080 1",
+        &[NxWaitsInStop, StopAPutsNxTo0, StopEndsNxRun, ClearPutsNxTo0],
+    );
+}
+
+#[test]
+fn both_comparisons_of_nx_take_the_present_ratio() {
+    row(
+        "lists A and B of 69 data; 0 = 12; 1 = 8; 25 = 600; 52 = 2; 67 = 300; log
+         both 0 off gear 1; both 60 off gear 1; both 149 off gear 1; both 239 off gear 1; both 298 off gear 1",
+        "1 00200080 00200080 1
+         2 00200080 00200080 1
+         3 00200080 00200080 1
+         4 00000080 00000080 1
+         5 00200080 00200080 1",
+        &[NxTo0Unscaled, NxTo0ByFirstRatio, GearBitsUnusableAt69, RatioIs1At69],
+    );
+}
+
+#[test]
+fn with_both_data_0_and_in_shorter_lists_n_below_nx_reads_as_before() {
+    for (of, others) in [
+        ("", &[LackedHysteresisIs1, LackedFilterIs1][..]),
+        (" of 67 data", &[LackedHysteresisIs1, LackedFilterIs1]),
+        (" of 69 data", &[]),
+    ] {
+        row(
+            &format!("lists A and B{of}; 0 = 12; 1 = 8; 25 = 600; log; both 0 off; both 119 off; both 239 off; both 239 off"),
+            "1 00200080 00200080 1
+             2 00200080 00200080 1
+             3 00000080 00000080 1
+             4 00200080 00200080 1",
+            others,
+        );
+    }
+}
+
+#[test]
+fn what_is_kept_of_nx_with_its_function_off() {
+    let stated = [(0, 12), (25, 600), (67, 300), (68, 2)];
+    let mut channel = Channel::fresh(data_of(69, &stated));
+    for (position, inputs, value, run) in [
+        (0, 1, false, 1),
+        (119, 1, false, 2),
+        (119, 5, false, 2),
+        (119, 1, true, 3),
+        (269, 1, true, 0),
+        (269, 5, true, 0),
+        (269, 1, true, 1),
+        (449, 1, false, 0),
+    ] {
+        let report = channel.report(position, inputs);
+        let word = channel.cycle(position, inputs, false, report).word;
+        assert_eq!(word & 1 << 21, 0);
+        let nx = channel.nx();
+        assert_eq!((nx.value, nx.run), (value, run), "{position} {inputs}");
+    }
+}
+
+#[test]
+fn the_run_of_nx_is_counted_up_to_1001_whatever_the_filter() {
+    for filter in [0, 2, 1000] {
+        let mut channel = Channel::fresh(data_of(69, &[(0, 12), (25, 600), (68, filter)]));
+        for cycle in 1..=1_010 {
+            let report = channel.report(0, 1);
+            channel.cycle(0, 1, false, report);
+            assert_eq!(channel.nx().run, cycle.min(1_001));
+            assert_eq!(channel.nx().value, cycle > i64::from(filter));
+        }
+    }
 }

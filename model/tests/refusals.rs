@@ -129,8 +129,12 @@ fn numbers_2_3_4_at_the_datums_own_place() {
 
 #[test]
 fn every_range_end_is_taken_and_one_beyond_is_not() {
-    for number in 0..67 {
-        let of = if number < 51 { "" } else { " of 67 data" };
+    for number in 0..69 {
+        let of = match number {
+            0..51 => "",
+            51..67 => " of 67 data",
+            _ => " of 69 data",
+        };
         let (low, high) = model::machine_data::range(number);
         for value in [low, high] {
             let other_end = match number {

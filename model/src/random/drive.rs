@@ -18,13 +18,22 @@ pub fn log(
     data_b: &[i32],
     cycles: Option<usize>,
 ) -> Vec<Vec<u32>> {
-    let cycles = cycles.unwrap_or_else(|| any_cycles(random));
+    let longest = data_a.get(number::NX_FILTER) == Some(&1_000);
+    let rests = cycles.is_none() && longest && random.percent(4);
+    let cycles = cycles.unwrap_or_else(|| match rests {
+        true => random.between(1_000, 1_100) as usize,
+        false => any_cycles(random),
+    });
     let remarks = match cycles {
         0 => random.pick(&[0, 60]),
         _ => random.pick(&[0, 0, 0, 10, 40]),
     };
     let fresh = |data| Channel::fresh(MachineData::of(data));
     let mut driver = Driver::new(random, fresh(data_a), fresh(data_b));
+    if rests {
+        // Long enough for the longest filter of n<nx.
+        (driver.habits.moves, driver.habits.idles) = (0, 0);
+    }
     let mut log = Vec::new();
     for _ in 0..cycles {
         push_remarks(driver.random, remarks, &mut log);

@@ -192,7 +192,7 @@ fn data(random: &mut Xorshift) -> Vec<i32> {
     }
     match random.below(100) {
         0..=3 => at_range_ends(random, &mut data),
-        4..=7 => hardly_dividing(random, &mut data),
+        4..=10 => hardly_dividing(random, &mut data),
         _ => (),
     }
     for (datum, number) in data.iter_mut().zip(0..) {
@@ -227,7 +227,7 @@ fn hardly_dividing(random: &mut Xorshift, data: &mut [i32]) {
         *datum = match number {
             0 => random.pick(&[7, 11, 13]),
             3..=6 => random.pick(&[997, 1997, 1999, 2003]),
-            51..=58 => random.pick(&[1, 1, 3]),
+            51..=58 => random.pick(&[1, 1, 1, 3]),
             59..=66 => random.pick(&[991, 997]),
             _ => continue,
         };

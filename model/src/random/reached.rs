@@ -73,6 +73,7 @@ named! {
         CamFalls: "a cam signal falls",
         NxShows: "n<nx shows 1",
         NxSet: "n<nx goes to 1 after its filter",
+        NxSetLast: "n<nx goes to 1 after a filter of 1,000",
         NxWaits: "n<nx stays 0 below nx, its run too short",
         NxKept1: "n<nx stays 1 between nx and nx plus hysteresis",
         NxKeptBelow: "n<nx stays 1 below nx, its run too short",
@@ -302,6 +303,8 @@ impl Reached {
         let (is_1, is_0) = (was.value && is.value, !was.value && !is.value);
         let short = is.run > 0 && is.run <= data.get(number::NX_FILTER).into();
         self.event(Event::NxSet, filtered && !was.value && is.value);
+        let longest = is.run == 1_001 && !was.value;
+        self.event(Event::NxSetLast, longest && is.value);
         self.event(Event::NxWaits, is_0 && short);
         self.event(Event::NxKept1, is_1 && is.run == 0);
         self.event(Event::NxKeptBelow, is_1 && short);

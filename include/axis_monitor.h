@@ -42,7 +42,7 @@ typedef struct monitor_channel {
 #define MONITOR_STATE_RANK 14         /* the stop's rank, while braking or held */
 #define MONITOR_STATE_REST 15         /* cycles left while braking; the hold's reference, signed, while held */
 #define MONITOR_STATE_CAMS 16         /* cam signals, SN1+ in bit 0 */
-#define MONITOR_STATE_NX 17           /* 1 if n<nx is 1; kept while its function is off and in unusable cycles too */
+#define MONITOR_STATE_NX 17           /* 1 if n<nx is 1; worked out while its function is off too, and left as it is by an unusable cycle */
 #define MONITOR_STATE_NX_RUN 18       /* usable cycles running in which the speed was below nx, not counted past 1,001 */
 
 #define MONITOR_NOTHING 0   /* nothing is effective */

@@ -1,5 +1,5 @@
--- W3: no cause and no other part of the state moved; and with both data 0, and so with every list of 51 or 67 data, the word, a log's run and a kit's listing
--- are as they were, whatever the rule of cause 13. Assumes nothing.
+-- W3: the rules of n<nx are asked for the word alone (specs/Cycle.antt), so no cause and no state depends on them. With both data 0, and so with every list of
+-- 51 or 67 data, the word, a log's run and a kit's listing are as they were, whatever the rule of cause 13. Assumes nothing.
 use Prim.Native.Nat.{ℕ, _≤_}
 use mathlib.Core.Path.{_≡_, refl, _∙_}
 use mathlib.Core.Bool.{Bool, true, false, _||_}

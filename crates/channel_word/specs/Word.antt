@@ -47,6 +47,7 @@ pub record Parts (effective cancelled sg nx rank held fault : ℕ) : Type 0 wher
 abbrev pub shownCams : List ℤ → ℕ → ℕ
 shownCams d cams = cond (functionOf d 2) (cams % 256) 0
 
+-- n<nx: "show 0 while their function is off"
 abbrev pub shownNx : List ℤ → Bool → Bool
 shownNx d nx = functionOf d 3 && nx
 

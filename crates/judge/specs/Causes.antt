@@ -1,4 +1,4 @@
--- Steps 2 to 4 of a cycle: what moved, what is effective, and the table of causes. Document 01, "One cycle of a channel".
+-- Steps 2 to 4 of a cycle: what moved, what is effective, and the table of causes. Document 01, "One cycle of a channel"; and n<nx, W3.
 use Prim.Native.Nat.{ℕ}
 use mathlib.Core.Bool.{Bool, true, cond, _||_}
 use mathlib.Core.List.{List, [], _∷_}

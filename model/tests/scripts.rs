@@ -334,6 +334,7 @@ fn by_what_is_active<const N: u32>(channel: &mut Lent, old: &[u32], cycle: &mut 
 fn by_nx<const N: u32>(channel: &mut Lent, old: &[u32], unusable: bool) {
     let on = channel.data()[1] & 8 != 0;
     let filter = channel.data()[68] as u32;
+    let head = channel.channel().data().head();
     let (value, run) = (channel.state()[word::NX], channel.state()[word::NX_RUN]);
     match N {
         // With the function off value or run stay, or are 0; or an unusable cycle ends them.
@@ -365,6 +366,9 @@ fn by_nx<const N: u32>(channel: &mut Lent, old: &[u32], unusable: bool) {
         }
         // The run begins anew where n<nx goes to 1.
         74 if value == 1 && old[word::NX] == 0 => set(channel, word::NX_RUN, 1),
+        // An unusable cycle ends value or run under a list of 51 data.
+        75 if unusable && head == 51 => set(channel, word::NX, 0),
+        76 if unusable && head == 51 => set(channel, word::NX_RUN, 0),
         _ => (),
     }
 }
@@ -414,7 +418,7 @@ fn untold(scripts: &[Script]) -> Vec<u32> {
     }
     let told = of!(0 1 2 3 4 5 6 7 8 9 10 11 12 13 14 15 16 17 18 19 20 21 22 23 24 25 26 27 28 29
         30 31 32 33 34 35 36 37 38 39 40 41 42 43 44 45 46 47 48 49 50 51 52 53 54 55 56 57 58 59
-        60 61 62 63 64 65 66 67 68 69 70 71 72 73 74);
+        60 61 62 63 64 65 66 67 68 69 70 71 72 73 74 75 76);
     assert_eq!(told[0], (0, 0));
     let untold = told[1..].iter().filter(|(_, scripts)| *scripts == 0);
     untold.map(|(board, _)| *board).collect()

@@ -1,7 +1,7 @@
 //! Safe inputs, reports, and one cycle of a channel.
 
 use crate::causes::{self, Causes, Run, F};
-use crate::deviation::{paper, Paper, Reading};
+use crate::deviation::{paper, Deviant, Deviation, Paper, Reading};
 use crate::gear::{Ratio, GEAR_BITS};
 use crate::machine_data::{number, Function, MachineData, COUNT, HEADS};
 use crate::nx::Nx;
@@ -205,6 +205,7 @@ impl Channel {
         UnusableCamsWorkedOut => self.move_cams(r, position),
         UnusableNxTo0 => self.nx.value = false,
         UnusableNxTo1 => self.nx.value = true,
+        UnusableAcknowledgedNxTo0 => if acknowledged { self.nx.value = false },
         UnusableNxAsFresh => self.nx = Nx::fresh(r),
         UnusableNxRunEnds => self.nx.run = 0,
         UnusableNxRunCounts => self.nx.run += 1,
@@ -396,6 +397,37 @@ impl Channel {
         NxWaitsInStop => if self.stop.rank != Rank::None { self.nx = before },
         StopAPutsNxTo0 => if self.stop.rank == Rank::A { self.nx.value = false },
         StopEndsNxRun => if self.stop.rank != Rank::None { self.nx.run = 0 },
+        NxWaitsInStopB => if self.stop.rank == Rank::B { self.nx = before },
+        NxNotTo1InStopE => if self.stop.rank == Rank::E { self.nx.value &= before.value },
+        NxNotTo0InStopD => if self.stop.rank == Rank::D { self.nx.value |= before.value },
+        NxRunNotEndedInStopC => if self.stop.rank == Rank::C {
+            self.nx = self.nx_by(Deviation::NxRunEndedAboveOnly, before, moment)
+        },
+        NxHysteresisIgnoredHeld => if self.stop.held.is_some() {
+            self.nx = self.nx_by(Deviation::NxHysteresisIgnored, before, moment)
+        },
+        NxFilterIgnoredEffective => if self.selections.effective != Selection::Nothing {
+            self.nx = self.nx_by(Deviation::NxFilterIgnored, before, moment)
+        },
+        NxFilterIgnoredInDelay => if self.selections.count > 0 {
+            self.nx = self.nx_by(Deviation::NxFilterIgnored, before, moment)
+        },
+        NxShortRunIs0AtSe2 => if moment.inputs >> 12 & 1 == 1 {
+            self.nx = self.nx_by(Deviation::NxShortRunIs0, before, moment)
+        },
+        NxShortRunIs0Minus => if moment.d < 0 {
+            self.nx = self.nx_by(Deviation::NxShortRunIs0, before, moment)
+        },
+        NxNotTo0Apart => if moment.position != moment.report.position {
+            self.nx.value |= before.value
+        },
+        NxRunNotEndedUnlike => if moment.inputs != moment.report.inputs {
+            self.nx = self.nx_by(Deviation::NxRunEndedAboveOnly, before, moment)
+        },
+        NxFilterIgnoredByHeads => if moment.report.head != self.data.head() {
+            self.nx = self.nx_by(Deviation::NxFilterIgnored, before, moment)
+        },
+        FPutsNxTo0 => if self.f.on { self.nx.value = false },
         NxRunEndsWithRatio => if self.earlier.replace(moment.ratio).is_some_and(|was| was != moment.ratio) {
             self.nx = before;
             self.nx.run = 0
@@ -505,6 +537,13 @@ impl Channel {
             | rank.number() << paper!(r, 24, RankBitsMoved => 25)
             | u32::from(held) << held_bit
             | u32::from(f) << f_bit
+    }
+
+    /// Of deviations only: value and run of n<nx by another reading.
+    fn nx_by(&self, deviation: Deviation, before: Nx, moment: &Moment) -> Nx {
+        let mut nx = before;
+        nx.advance(Deviant(deviation), &self.data, moment);
+        nx
     }
 
     /// Of deviations only: looks at what is active in the other channel.

@@ -15,8 +15,9 @@ pub struct Nx {
     pub value: bool,
     /// For how many "usable cycles running" "the speed has been below nx".
     pub run: i64,
-    /// Of deviations only: for how many it has been nx plus hysteresis or more.
+    /// Of deviations only: for how many it has been nx plus hysteresis or more, and for how many neither.
     above: i64,
+    between: i64,
 }
 
 impl Nx {
@@ -26,6 +27,7 @@ impl Nx {
             value: paper!(r, false, NxFresh1 => true),
             run: paper!(r, 0, NxRunFresh1 => 1),
             above: 0,
+            between: 0,
         }
     }
 
@@ -35,6 +37,7 @@ impl Nx {
             value,
             run,
             above: 0,
+            between: 0,
         }
     }
 
@@ -53,6 +56,8 @@ impl Nx {
             NxFilterInMs => run * i64::from(data.get(number::T)) > filter);
         let kept = paper!(r, self.value,
             NxBetweenIs1 => self.value || self.run == 0,
+            NxBetweenTo1In4 => self.value || self.between >= 4,
+            NxBetweenTo0In5 => self.value && self.between < 5,
             NxShortRunIs0 => self.value && self.run == 0);
         self.value = paper!(r, !above && (long || kept),
             NxFilteredTo0 => long || kept && self.above <= filter,
@@ -74,7 +79,12 @@ impl Nx {
                 NxRunFalls => (self.run - 1).max(0),
                 NxRunEndedAboveOnly => if above { 0 } else { self.run })
         };
-        paper!(r, (), NxFilteredTo0 => self.above = if above { self.above + 1 } else { 0 });
+        // Of deviations only.
+        let between = !above && self.run == 0;
+        paper!(r, (),
+            NxFilteredTo0 => self.above = if above { self.above + 1 } else { 0 },
+            NxBetweenTo1In4 => self.between = if between { self.between + 1 } else { 0 },
+            NxBetweenTo0In5 => self.between = if between { self.between + 1 } else { 0 });
     }
 }
 
@@ -89,11 +99,20 @@ fn is_above<R: Reading>(r: R, data: &MachineData, moment: &Moment) -> bool {
         NxHysteresisAlone => hysteresis,
         NxHysteresisPercent => (i64::from(nx) * i64::from(100 + hysteresis) / 100) as i32,
         NxHysteresisOf16Bits => nx + (hysteresis & 0xffff),
+        NxHysteresisEven => nx + (hysteresis & !1),
         NxSumUpTo1000000 => (nx + hysteresis).min(1_000_000));
     paper!(r, !slower(r, data, moment, speed),
     NxTo0Above => !slower(r, data, moment, speed) && !at(data, moment, speed),
     NxTo0Unscaled => moment.d.abs() * 60 >= data.times_t(speed),
     NxTo0ByFirstRatio => !slower(r, data, &in_first_gear(data, moment), speed),
+    NxTo0StepOf32Bits => {
+        let (step, bound) = sides(data, moment, speed);
+        cut(step, 32) >= bound
+    },
+    NxTo0BoundOf35Bits => {
+        let (step, bound) = sides(data, moment, speed);
+        step >= cut(bound, 35)
+    },
     NxTo0Signed => moment.d >= 0 && !slower(r, data, moment, speed),
     NxTo0Divides => moment.ratio.step(r, moment.d).abs() >= moment.ratio.bound(data.times_t(speed)) / 60,
     NxHysteresisUnscaled => {
@@ -119,6 +138,14 @@ fn is_below<R: Reading>(r: R, data: &MachineData, moment: &Moment) -> bool {
         NxTo1AtBound => slower(r, data, moment, speed) || at(data, moment, speed),
         NxTo1Unscaled => moment.d.abs() * 60 < data.times_t(speed),
         NxTo1ByFirstRatio => slower(r, data, &in_first_gear(data, moment), speed),
+        NxTo1StepOf32Bits => {
+            let (step, bound) = sides(data, moment, speed);
+            cut(step, 32) < bound
+        },
+        NxTo1BoundOf32Bits => {
+            let (step, bound) = sides(data, moment, speed);
+            step < cut(bound, 32)
+        },
         NxTo1Signed => moment.d < 0 || slower(r, data, moment, speed),
         NxTo1AtRest => moment.d == 0 && slower(r, data, moment, speed))
 }
@@ -134,6 +161,7 @@ fn slower<R: Reading>(r: R, data: &MachineData, moment: &Moment, speed: i32) -> 
         NxSigned => step * 60 < bound,
         NxWithoutT => step.abs() * 60 < ratio.bound(i64::from(speed) * 12),
         NxDivides => step.abs() < bound / 60,
+        NxBinary32 => ((step.abs() * 60) as f32) < bound as f32,
         NxUnscaled => d.abs() * 60 < data.times_t(speed),
         NxRatioDivides => ratio.of_number(d.abs()) * 60 < data.times_t(speed),
         NxRatioDividesBound => d.abs() * 60 < ratio.of_bound(data.times_t(speed)))
@@ -156,10 +184,21 @@ fn filter<R: Reading>(r: R, data: &MachineData) -> i64 {
 
 // What follows is of deviations only.
 
+/// The two sides of a comparison with a speed.
+fn sides(data: &MachineData, moment: &Moment, speed: i32) -> (i64, i64) {
+    let step = moment.ratio.step(crate::Paper, moment.d);
+    (step.abs() * 60, moment.ratio.bound(data.times_t(speed)))
+}
+
 /// Whether the speed is just this.
 fn at(data: &MachineData, moment: &Moment, speed: i32) -> bool {
-    let step = moment.ratio.step(crate::Paper, moment.d);
-    step.abs() * 60 == moment.ratio.bound(data.times_t(speed))
+    let (step, bound) = sides(data, moment, speed);
+    step == bound
+}
+
+/// A number cut to its lowest bits.
+fn cut(number: i64, bits: u32) -> i64 {
+    number & ((1 << bits) - 1)
 }
 
 /// A cycle as it would be by the first ratio.

@@ -1,6 +1,6 @@
 -- A cycle under any rules. All else is taken as it is now: the table of causes and what a usable cycle leaves are those of now, with the step and the cause 13
--- of the rules; n<nx goes on in the state, whatever the rules show of it. That the comparisons of a step of 1 to 1 are document 01's is `too-fast-51` and `slower-51` in proofs/Headed51.antt; and data 0 to 50
--- are read by its table, `datum-51` in proofs/Lists.antt.
+-- of the rules; n<nx goes on in the state, whatever the rules show of it. That the comparisons of a step of 1 to 1 are document 01's is `too-fast-51` and
+-- `slower-51` in proofs/Headed51.antt; and data 0 to 50 are read by its table, `datum-51` in proofs/Lists.antt.
 use Prim.Native.Nat.{ℕ}
 use mathlib.Core.Bool.{Bool, true, not, cond, _&&_}
 use mathlib.Core.List.{List, [], _∷_}

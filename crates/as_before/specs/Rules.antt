@@ -1,5 +1,5 @@
--- What the requests have moved in how a list is read and a cycle goes, as one record: the rules of now, those without one request, and those before one, back to
--- document 01's. What no request moved is not kept twice: a cycle under any rules is Cycle.antt, a run Runs.antt.
+-- What the requests have moved in how a list is read and a cycle goes, as one record: the rules of now, those without one request, and those before one, back
+-- to document 01's. What no request moved is not kept twice: a cycle under any rules is Cycle.antt, a run Runs.antt.
 use Prim.Native.Nat.{ℕ, suc, _+_, _/_, _%_, _^_}
 use mathlib.Core.Bool.{Bool, cond, _&&_}
 use mathlib.Core.List.{List}

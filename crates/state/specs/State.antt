@@ -6,7 +6,8 @@ use Rattle.selection.specs.declared.Selection.the-variants.{Nothing}
 use Rattle.stop.specs.declared.Stop.the-variants.{Free}
 use Rattle.state.specs.declared.State.{State}
 
--- "A fresh channel has rank 0, nothing effective, F off, no previous position, and all counts and runs 0"; "k starts at 0"; cams "fresh 0"; W3, of n<nx: "fresh 0"
+-- "A fresh channel has rank 0, nothing effective, F off, no previous position, and all counts and runs 0"; "k starts at 0"; cams "fresh 0";
+-- W3, of n<nx: "fresh 0"
 abbrev pub freshState : State
 freshState =
     record {

@@ -1,5 +1,5 @@
 -- What the run of a log leaves, by its answer: a channel keeps its list, and a refusal leaves both as they were. Assumes nothing.
-use mathlib.Core.Path.{_≡_, refl, sym, ap, _∙_, subst}
+use mathlib.Core.Path.{_≡_, refl, sym, ap, _∙_}
 use mathlib.Core.List.{List}
 use Prim.Native.Nat.{ℕ, _*_, _<_}
 use lib.Dec.{ltb}
@@ -16,15 +16,15 @@ use Rattle.refusal.specs.Refusal.{refusalNumber, refusalPlace}
 use Rattle.state.specs.declared.State.{State}
 use Rattle.channel.specs.declared.Channel.{Channel}
 use Rattle.channel.specs.Cycle.{withState}
-use Rattle.log.specs.declared.LogRun.{LogRun}
+use Rattle.log.specs.declared.LogStates.{LogStates}
 use Rattle.log.specs.declared.LogAnswer.{LogAnswer}
 use Rattle.log.specs.declared.LogAnswer.the-variants.{Accepted, Refused}
 use Rattle.log.specs.Run.{Ran, refusing, running, byRecords, ranOf}
-use Rattle.log.specs.Ensures.{LogEnsures, beside}
+use Rattle.log.specs.Left.{beside, leftBeside}
 use Rattle.image.specs.Image.{countFrom, stateFrom, stateWords, channelFrom}
-use Rattle.image.specs.Ensures.{WordsEnsures}
+use Rattle.image.specs.Written.{Written, writtenAs, writing}
 use Rattle.axis_logs.specs.Crossing.{logNumber, logPlace, logLeft}
-use Rattle.axis_logs.specs.Ensures.{ranFrom, RunLogEnsures}
+use Rattle.axis_logs.specs.Left.{LogLeft, leftByLog, ranFrom, logOver}
 use Rattle.image.proofs.Channels.{written}
 
 -- what a log leaves of its channels
@@ -55,9 +55,9 @@ module _ (a b : Channel) (out : List ℕ) where
 
 -- a channel's state after the run, written into its array
 after-run : (values : List ℤ) (w : List ℕ) (c : Channel) {count : ℕ} {s : State} {w′ : List ℕ} → c ≡ withState (channelFrom values w) (c .state) → s ≡ c .state →
-    count ≡ countFrom w → count < 4294967296 → WordsEnsures count s w′ → (w′ ≡ stateWords (countFrom w) (c .state)) × (channelFrom values w′ ≡ c)
+    count ≡ countFrom w → count < 4294967296 → writtenAs w′ ≡ writing count s → (w′ ≡ stateWords (countFrom w) (c .state)) × (channelFrom values w′ ≡ c)
 after-run values w c {count} {s} keeps same is small e = (
-  e .words ∙ (λ i. stateWords (is i) (same i)),
+  ap (λ (x : Written). x .words) e ∙ (λ i. stateWords (is i) (same i)),
   written values count s small e ∙ (λ i. record { list = lent values (is i); state = same i }) ∙ sym keeps,
 )
 
@@ -66,42 +66,40 @@ pub channel-is : (values : List ℤ) (w : List ℕ) {count : ℕ} {s : State} �
 channel-is values w is same = λ i. beside values (is i) (same i)
 
 module _ (values-a : List ℤ) (wa : List ℕ) (values-b : List ℤ) (wb words out : List ℕ) {a b : Channel} (is-a : a ≡ channelFrom values-a wa) (is-b : b ≡ channelFrom values-b wb)
-    {r : LogRun} {out′ : List ℕ} (given : LogEnsures a b words out r out′) where
+    {r : LogStates} {out′ : List ℕ} (given : leftBeside a b r out′ ≡ ranOf a b words out) where
   abbrev R : Ran
   R = ranFrom values-a wa values-b wb words out
 
-  log : LogEnsures (channelFrom values-a wa) (channelFrom values-b wb) words out r out′
-  log = subst (λ (x : Channel). LogEnsures x (channelFrom values-b wb) words out r out′) is-a (subst (λ (x : Channel). LogEnsures a x words out r out′) is-b given)
+  log : leftBeside a b r out′ ≡ R
+  log = given ∙ (λ i. ranOf (is-a i) (is-b i) words out)
 
   left : Leaves (channelFrom values-a wa) (channelFrom values-b wb) out R
   left = leaves (channelFrom values-a wa) (channelFrom values-b wb) out words
 
-  pub ran : {n count-a count-b : ℕ} {wa′ wb′ : List ℕ} → r .answer ≡ Accepted n → count-a ≡ countFrom wa → count-a < 4294967296 → count-b ≡ countFrom wb → count-b < 4294967296 →
-      WordsEnsures count-a (r .a .state) wa′ → WordsEnsures count-b (r .b .state) wb′ → RunLogEnsures values-a wa values-b wb words out 0 wa′ wb′ out′ n
-  ran {n} {wa′ = wa′} {wb′ = wb′} e count-a small-a count-b small-b put-a put-b =
-      let answer : R .answer ≡ Accepted n = sym (log .answer) ∙ e in
-      let ra = after-run values-a wa (R .a) (left .a-list) (ap (λ (c : Channel). c .state) (log .channel-a)) count-a small-a put-a in
-      let rb = after-run values-b wb (R .b) (left .b-list) (ap (λ (c : Channel). c .state) (log .channel-b)) count-b small-b put-b in
+  -- what the run leaves of two states, by its answer
+  abbrev leavingBy : LogAnswer → LogLeft
+  leavingBy x =
       record {
-        number-is = ap logNumber (sym answer);
-        place = ap logPlace (sym answer);
-        a-left = ra .0 ∙ ap (λ (x : LogAnswer). logLeft x wa (stateWords (countFrom wa) (R .a .state))) (sym answer);
-        b-left = rb .0 ∙ ap (λ (x : LogAnswer). logLeft x wb (stateWords (countFrom wb) (R .b .state))) (sym answer);
-        channel-a = ra .1;
-        channel-b = rb .1;
-        output = log .output;
+        number = logNumber x;
+        place = logPlace x;
+        state-a = logLeft x wa (stateWords (countFrom wa) (R .a .state));
+        state-b = logLeft x wb (stateWords (countFrom wb) (R .b .state));
+        out = R .out;
+        a = R .a;
+        b = R .b;
       }
 
+  pub ran : {n count-a count-b : ℕ} {wa′ wb′ : List ℕ} → r .answer ≡ Accepted n → count-a ≡ countFrom wa → count-a < 4294967296 → count-b ≡ countFrom wb → count-b < 4294967296 →
+      writtenAs wa′ ≡ writing count-a (r .a) → writtenAs wb′ ≡ writing count-b (r .b) → leftByLog values-a values-b 0 wa′ wb′ out′ n ≡ logOver values-a wa values-b wb words out
+  ran {n} e count-a small-a count-b small-b put-a put-b =
+      let answer : R .answer ≡ Accepted n = sym (ap (λ (x : Ran). x .answer) log) ∙ e in
+      let ra = after-run values-a wa (R .a) (left .a-list) (ap (λ (x : Ran). x .a .state) log) count-a small-a put-a in
+      let rb = after-run values-b wb (R .b) (left .b-list) (ap (λ (x : Ran). x .b .state) log) count-b small-b put-b in
+      (λ i. record { number = 0; place = n; state-a = ra .0 i; state-b = rb .0 i; out = log i .out; a = ra .1 i; b = rb .1 i }) ∙ ap leavingBy (sym answer)
+
   pub refused : {why : Refusal} {number at : ℕ} → r .answer ≡ Refused why → number ≡ refusalNumber why → at ≡ refusalPlace why →
-      RunLogEnsures values-a wa values-b wb words out number wa wb out′ at
+      leftByLog values-a values-b number wa wb out′ at ≡ logOver values-a wa values-b wb words out
   refused {why} e number at =
-      let answer : R .answer ≡ Refused why = sym (log .answer) ∙ e in
-      record {
-        number-is = number ∙ ap logNumber (sym answer);
-        place = at ∙ ap logPlace (sym answer);
-        a-left = ap (λ (x : LogAnswer). logLeft x wa (stateWords (countFrom wa) (R .a .state))) (sym answer);
-        b-left = ap (λ (x : LogAnswer). logLeft x wb (stateWords (countFrom wb) (R .b .state))) (sym answer);
-        channel-a = sym (left .refused-a why answer);
-        channel-b = sym (left .refused-b why answer);
-        output = log .output;
-      }
+      let answer : R .answer ≡ Refused why = sym (ap (λ (x : Ran). x .answer) log) ∙ e in
+      (λ i. record { number = number i; place = at i; state-a = wa; state-b = wb; out = log i .out; a = sym (left .refused-a why answer) i; b = sym (left .refused-b why answer) i })
+      ∙ ap leavingBy (sym answer)

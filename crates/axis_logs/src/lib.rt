@@ -5,7 +5,7 @@ ghost use lib.ListN.{length};
 ghost use Rattle.numerals.specs.Written.{written};
 ghost use Rattle.kit_run.specs.KitRun.{kitRan};
 ghost use Rattle.listing.specs.Listing.{listed, cyclesOf, toldOf};
-ghost use Rattle.axis_logs.specs.Ensures.{RunLogEnsures};
+ghost use Rattle.axis_logs.specs.Left.{leftByLog, logOver};
 use image::Image;
 use log::LogAnswer;
 use machine_data::Values;
@@ -22,7 +22,7 @@ pub extern "C" fn monitor_run_log(
     out: &mut [u32],
     at: &mut usize,
 ) -> u32
-    ensures { λ r. ⌜ RunLogEnsures (now («values_a» .entry)) (now («state_a» .entry)) (now («values_b» .entry)) (now («state_b» .entry)) (now (words .entry)) (now (out .entry)) r (now («state_a» .exit)) (now («state_b» .exit)) (now (out .exit)) (now (at .exit)) ⌝ }
+    ensures { λ r. ⌜ leftByLog (now («values_a» .entry)) (now («values_b» .entry)) r (now («state_a» .exit)) (now («state_b» .exit)) (now (out .exit)) (now (at .exit)) ≡ logOver (now («values_a» .entry)) (now («state_a» .entry)) (now («values_b» .entry)) (now («state_b» .entry)) (now (words .entry)) (now (out .entry)) ⌝ }
 {
     let na = image::count_of(state_a);
     let nb = image::count_of(state_b);

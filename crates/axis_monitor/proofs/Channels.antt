@@ -1,31 +1,27 @@
 -- A cycle leaves the arrays of the channel after it. Assumes nothing.
-use mathlib.Core.Path.{_≡_, _∙_, sym, subst}
+use mathlib.Core.Path.{_≡_, ap, _∙_}
 use mathlib.Core.List.{List}
 use Prim.Native.Nat.{ℕ, _<_}
 use lib.IntN.{ℤ}
 use Rattle.machine_data.specs.Data.{lent}
-use Rattle.causes.specs.declared.Causes.{Causes}
-use Rattle.causes.specs.Codes.{Lists}
+use Rattle.codes.specs.declared.Causes.{Causes}
 use Rattle.state.specs.declared.Given.{Given}
-use Rattle.judge.specs.Causes.{rowsOf}
 use Rattle.advance.specs.declared.Advanced.{Advanced}
-use Rattle.channel.specs.Ensures.{AdvanceEnsures}
-use Rattle.image.specs.Image.{countFrom, listFrom, stateFrom, stateWords}
+use Rattle.channel.specs.Outcome.{causesIn, advanced}
+use Rattle.image.specs.Image.{countFrom, stateFrom, stateWords}
+use Rattle.image.specs.Written.{Written, writtenAs, writing}
 use Rattle.image.proofs.Channels.{written}
-use Rattle.axis_monitor.specs.Ensures.{LeaveEnsures, CycleEnsures}
+use Rattle.axis_monitor.specs.Left.{leftByCycle, cycleOn}
 
 module _ (values : List ℤ) (w : List ℕ) (g : Given) where
   pub cycled : {count : ℕ} {r : Advanced} {list : Causes} {n : ℕ} {w′ codes′ : List ℕ} → count ≡ countFrom w → count < 4294967296 →
-      AdvanceEnsures (lent values count) (stateFrom w) g r → Lists (rowsOf (lent values count) (stateFrom w) g) list → LeaveEnsures count r list n w′ codes′ → CycleEnsures values w g n w′ codes′
-  cycled {count} {r} {list} is small e lists left =
-      let same : AdvanceEnsures (listFrom values w) (stateFrom w) g r = subst (λ (n : ℕ). AdvanceEnsures (lent values n) (stateFrom w) g r) is e in
-      let rows = rowsOf (listFrom values w) (stateFrom w) g in
-      record {
-        word-is = left .word-is ∙ same .word-is;
-        state-left = left .state .words ∙ (λ i. stateWords (is i) (same .state i));
-        channel = written values count (r .state) small (left .state) ∙ (λ i. record { list = lent values (is i); state = same .state i });
-        many = list .count;
-        causes =
-            subst (λ (codes : List ℕ). Lists rows (record { codes = codes; count = list .count })) (sym (left .codes))
-            (subst (λ (n : ℕ). Lists (rowsOf (lent values n) (stateFrom w) g) list) is lists);
-      }
+      r ≡ advanced (lent values count) (stateFrom w) g → list ≡ causesIn (lent values count) (stateFrom w) g →
+      n ≡ r .word → writtenAs w′ ≡ writing count (r .state) → codes′ ≡ list .codes → leftByCycle values n w′ codes′ ≡ cycleOn values w g
+  cycled {count} {r} is small went listed shown put codes =
+      let m = ap (lent values) is in
+      let after : r ≡ advanced (lent values (countFrom w)) (stateFrom w) g = went ∙ (λ i. advanced (m i) (stateFrom w) g) in
+      let word-is = shown ∙ ap (λ (x : Advanced). x .word) after in
+      let words-are = ap (λ (x : Written). x .words) put ∙ (λ i. stateWords (is i) (after i .state)) in
+      let channel-is = written values count (r .state) small put ∙ (λ i. record { list = m i; state = after i .state }) in
+      let codes-are = codes ∙ ap (λ (x : Causes). x .codes) listed ∙ (λ i. causesIn (m i) (stateFrom w) g .codes) in
+      λ i. record { word = word-is i; state = words-are i; codes = codes-are i; channel = channel-is i }

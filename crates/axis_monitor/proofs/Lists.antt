@@ -1,10 +1,9 @@
 -- What reading a list leaves, by its answer; the number of its data is one that a word holds. Assumes nothing.
-use mathlib.Core.Path.{_≡_, sym, ap, _∙_, subst}
+use mathlib.Core.Path.{_≡_, sym, ap, _∙_}
 use mathlib.Core.List.{List}
 use Prim.Native.Nat.{ℕ, _<_}
 use native.Mathlib.Omega.{arith}
 use lib.IntN.{ℤ}
-use Rattle.laws.proofs.Never.{never}
 use Rattle.machine_data.specs.declared.MachineData.{MachineData}
 use Rattle.refusal.specs.declared.Refusal.{Refusal}
 use Rattle.refusal.specs.Refusal.{refusalNumber, refusalPlace}
@@ -17,10 +16,11 @@ use Rattle.list.proofs.Steps.{head-bounds}
 use Rattle.list.proofs.Accepts.{accepted, whole-answer}
 use Rattle.state.specs.declared.State.{State}
 use Rattle.state.specs.State.{freshState}
+use Rattle.channel.specs.Cycle.{freshChannel}
 use Rattle.image.specs.Image.{stateWords, channelFrom}
-use Rattle.image.specs.Ensures.{WordsEnsures}
+use Rattle.image.specs.Written.{writtenAs, writing}
 use Rattle.axis_monitor.specs.Crossing.{listNumber, listPlace, listLeft}
-use Rattle.axis_monitor.specs.Ensures.{ReadListEnsures}
+use Rattle.axis_monitor.specs.Left.{ListLeft, leftByList, listInto}
 use Rattle.image.proofs.Channels.{written}
 
 few-data : (words : List ℕ) (used : ℕ) → readList words .answer ≡ Accepted used → readList words .list .count < 4294967296
@@ -30,25 +30,28 @@ few-data words used e = go (accepted words (readList words .list) used .0 (whole
     go {d} (list w size x values a b) = omega (arith, head-bounds (d .count) size .1)
 
 module _ (words : List ℕ) (values : List ℤ) (state : List ℕ) {read : ListRead} (is : read ≡ readList words) where
-  pub taken : {used : ℕ} {s : State} {w : List ℕ} → read .answer ≡ Accepted used → s ≡ freshState → WordsEnsures (read .list .count) s w → ReadListEnsures words values state 0 (read .list .values) w used
-  taken {used} {s} {w} e new put =
-      let answer : readList words .answer ≡ Accepted used = ap (λ (r : ListRead). r .answer) (sym is) ∙ e in
-      let here : WordsEnsures (readList words .list .count) freshState w = subst (λ (r : ListRead). WordsEnsures (r .list .count) freshState w) is (subst (λ (x : State). WordsEnsures (read .list .count) x w) new put) in
+  -- what a list leaves, by its answer
+  abbrev leaving : ListAnswer → ListLeft
+  leaving a =
+      let list = readList words .list in
       record {
-        number-is = ap listNumber (sym answer);
-        place = ap listPlace (sym answer);
-        data-left = ap (λ (r : ListRead). r .list .values) is ∙ ap (λ (a : ListAnswer). listLeft a values (readList words .list .values)) (sym answer);
-        state-left = here .words ∙ ap (λ (a : ListAnswer). listLeft a state (stateWords (readList words .list .count) freshState)) (sym answer);
-        fresh = λ n q. ap (λ (r : ListRead). channelFrom (r .list .values) w) is ∙ written (readList words .list .values) (readList words .list .count) freshState (few-data words used answer) here;
+        number = listNumber a;
+        place = listPlace a;
+        values = listLeft a values (list .values);
+        state = listLeft a state (stateWords (list .count) freshState);
+        channel = listLeft a (channelFrom values state) (freshChannel list);
       }
 
-  pub refused : {why : Refusal} {number at : ℕ} → read .answer ≡ Refused why → number ≡ refusalNumber why → at ≡ refusalPlace why → ReadListEnsures words values state number values state at
+  pub taken : {used : ℕ} {s : State} {w : List ℕ} → read .answer ≡ Accepted used → s ≡ freshState → writtenAs w ≡ writing (read .list .count) s →
+      leftByList 0 (read .list .values) w used ≡ listInto words values state
+  taken {used} {s} {w} e new put =
+      let answer : readList words .answer ≡ Accepted used = ap (λ (r : ListRead). r .answer) (sym is) ∙ e in
+      let here : writtenAs w ≡ writing (readList words .list .count) freshState = put ∙ (λ i. writing (is i .list .count) (new i)) in
+      let fresh = written (readList words .list .values) (readList words .list .count) freshState (few-data words used answer) here in
+      let whole = ap (λ (r : ListRead). channelFrom (r .list .values) w) is ∙ fresh in
+      (λ i. record { number = 0; place = used; values = is i .list .values; state = here i .words; channel = whole i }) ∙ ap leaving (sym answer)
+
+  pub refused : {why : Refusal} {number at : ℕ} → read .answer ≡ Refused why → number ≡ refusalNumber why → at ≡ refusalPlace why → leftByList number values state at ≡ listInto words values state
   refused {why} e number at =
       let answer : readList words .answer ≡ Refused why = ap (λ (r : ListRead). r .answer) (sym is) ∙ e in
-      record {
-        number-is = number ∙ ap listNumber (sym answer);
-        place = at ∙ ap listPlace (sym answer);
-        data-left = ap (λ (a : ListAnswer). listLeft a values (readList words .list .values)) (sym answer);
-        state-left = ap (λ (a : ListAnswer). listLeft a state (stateWords (readList words .list .count) freshState)) (sym answer);
-        fresh = λ n q. never (cc);
-      }
+      (λ i. leftByList (number i) values state (at i)) ∙ ap leaving (sym answer)

@@ -1,2 +1,2 @@
 pub mod Crossing
-pub mod Ensures
+pub mod Left

@@ -5,10 +5,11 @@ ghost use mathlib.Core.Path.{_≡_};
 ghost use Rattle.device.specs.Device.{deviceOf};
 ghost use Rattle.crossing_reports.specs.Reports.{givenFrom};
 ghost use Rattle.axis_monitor.specs.Crossing.{interfaceNumber};
-ghost use Rattle.axis_monitor.specs.Ensures.{ReadListEnsures, ReportEnsures, LeaveEnsures, CycleEnsures};
+ghost use Rattle.image.specs.Written.{writtenAs, writing};
+ghost use Rattle.axis_monitor.specs.Left.{leftByList, listInto, leftByReport, reportedBy, reporting, leftByCycle, cycleOn};
 use advance::Advanced;
-use causes::CODES;
-use causes::Causes;
+use codes::Causes;
+use codes::Codes;
 use crossing_reports::ReportWords;
 use image::Image;
 use inputs::Reading;
@@ -16,14 +17,12 @@ use list::ListAnswer;
 use machine_data::Values;
 use state::State;
 
-pub type Codes = [u8; CODES];
-
 // The number of this interface: it rises where a function, an array or the meaning of a word changes.
 #[no_mangle]
 pub extern "C" fn monitor_interface() -> u32
     ensures { λ r. ⌜ r ≡ interfaceNumber ⌝ }
 {
-    4
+    5
 }
 
 // A list read into a fresh channel: 0 and the words used, or the refusal's number and place, with the arrays as they were.
@@ -34,7 +33,7 @@ pub extern "C" fn monitor_read_list(
     state: &mut Image,
     at: &mut usize,
 ) -> u32
-    ensures { λ r. ⌜ ReadListEnsures (now (words .entry)) (now (values .entry)) (now (state .entry)) r (now (values .exit)) (now (state .exit)) (now (at .exit)) ⌝ }
+    ensures { λ r. ⌜ leftByList r (now (values .exit)) (now (state .exit)) (now (at .exit)) ≡ listInto (now (words .entry)) (now (values .entry)) (now (state .entry)) ⌝ }
 {
     let read = list::read_list(words);
     let answer = read.answer;
@@ -63,7 +62,7 @@ pub extern "C" fn monitor_report(
     inputs: u32,
     report: &mut ReportWords,
 )
-    ensures { λ _. ⌜ ReportEnsures (now (values .entry)) (now (state .entry)) position inputs (now (report .exit)) ⌝ }
+    ensures { λ _. ⌜ leftByReport (now (report .exit)) ≡ reporting (reportedBy (now (values .entry)) (now (state .entry)) position inputs) ⌝ }
 {
     let count = image::count_of(state);
     let known = image::state_from(state);
@@ -79,7 +78,9 @@ fn leave(
     state: &mut Image,
     causes: &mut Codes,
 ) -> u32
-    ensures { λ r. ⌜ LeaveEnsures count advanced list r (now (state .exit)) (now (causes .exit)) ⌝ }
+    ensures { λ r. ⌜ r ≡ advanced .word ⌝ }
+    ensures { λ _. ⌜ writtenAs (now (state .exit)) ≡ writing count (advanced .state) ⌝ }
+    ensures { λ _. ⌜ now (causes .exit) ≡ list .codes ⌝ }
 {
     let after = advanced.state;
     let codes = list.codes;
@@ -100,7 +101,7 @@ pub extern "C" fn monitor_cycle(
     report: &ReportWords,
     causes: &mut Codes,
 ) -> u32
-    ensures { λ r. ⌜ CycleEnsures (now (values .entry)) (now (state .entry)) (givenFrom position inputs acknowledged (now (report .entry))) r (now (state .exit)) (now (causes .exit)) ⌝ }
+    ensures { λ r. ⌜ leftByCycle (now (values .entry)) r (now (state .exit)) (now (causes .exit)) ≡ cycleOn (now (values .entry)) (now (state .entry)) (givenFrom position inputs acknowledged (now (report .entry))) ⌝ }
 {
     let given = crossing_reports::given_from(position, inputs, acknowledged, report);
     let count = image::count_of(state);

@@ -11,8 +11,9 @@ use Rattle.list.specs.declared.ListAnswer.the-variants.{Accepted, Refused}
 use Rattle.list.specs.Reading.{readList}
 use Rattle.channel.specs.declared.Channel.{Channel}
 use Rattle.channel.specs.Cycle.{freshChannel}
-use Rattle.axis_monitor.specs.Crossing.{listNumber}
-use Rattle.axis_monitor.specs.Ensures.{ReadListEnsures}
+use Rattle.image.specs.Image.{channelFrom}
+use Rattle.axis_monitor.specs.Crossing.{listNumber, listLeft}
+use Rattle.axis_monitor.specs.Left.{ListLeft, leftByList, listInto}
 use Rattle.demand_3.specs.Calls.{Words, Answers}
 use Rattle.demand_3.proofs.Demand3.{demand-3}
 use Rattle.nx_history.proofs.Shown.{shown-nx}
@@ -26,14 +27,17 @@ accepts (Accepted used) e = (used, refl)
 accepts (Refused why) e =
     let zero-is : _≡_ {A = ℕ} 1 0 = ap (λ (n : ℕ). cond (eqb n 0) 1 0) e ∙ refusal-not-0 why 1 0 in never (sym zero-is)
 
-module _ (words : List ℕ) (values : List ℤ) (state : List ℕ) (values′ : List ℤ) (state′ : List ℕ) (at : ℕ) (e : ReadListEnsures words values state 0 values′ state′ at)
+module _ (words : List ℕ) (values : List ℤ) (state : List ℕ) (values′ : List ℤ) (state′ : List ℕ) (at : ℕ) (e : leftByList 0 values′ state′ at ≡ listInto words values state)
     (calls : List BoardCall) (given : List Words) (a : ImageAnswers values′ state′ calls given) where
   list : (used : ℕ) × (readList words .answer ≡ Accepted used)
-  list = accepts (readList words .answer) (e .number-is)
+  list = accepts (readList words .answer) (ap (λ (x : ListLeft). x .number) e)
 
   -- the calls are answered on a fresh channel
   answers : Answers (freshChannel (readList words .list)) (callsOf calls) given
-  answers = subst (λ (c : Channel). Answers c (callsOf calls) given) (e .fresh (list .0) (list .1)) (on-channels values′ a)
+  answers =
+      subst (λ (c : Channel). Answers c (callsOf calls) given)
+      (ap (λ (x : ListLeft). x .channel) e ∙ ap (λ (x : ListAnswer). listLeft x (channelFrom values state) (freshChannel (readList words .list))) (list .1))
+      (on-channels values′ a)
 
 pub board-demand-3 : BoardDemand3
 board-demand-3 words values state values′ state′ at e calls given a =

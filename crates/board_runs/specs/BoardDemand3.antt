@@ -9,7 +9,7 @@ use lib.ListN.{length}
 use lib.IntN.{ℤ}
 use Rattle.bits.specs.Bits.{bitOf}
 use Rattle.list.specs.Reading.{readList}
-use Rattle.axis_monitor.specs.Ensures.{ReadListEnsures}
+use Rattle.axis_monitor.specs.Left.{leftByList, listInto}
 use Rattle.demand_3.specs.Calls.{Words}
 use Rattle.demand_3.specs.History.{allCycles, cycleAt}
 use Rattle.demand_3.specs.Demand3.{Demanded, wordsIn}
@@ -20,7 +20,7 @@ abbrev pub BoardDemand3 : Type 0
 BoardDemand3 =
     (words : List ℕ) (values : List ℤ) (state : List ℕ) (values′ : List ℤ) (state′ : List ℕ) (at : ℕ) →
     -- the list is accepted: the answer is 0
-    ReadListEnsures words values state 0 values′ state′ at →
+    leftByList 0 values′ state′ at ≡ listInto words values state →
     (calls : List BoardCall) (given : List Words) → ImageAnswers values′ state′ calls given →
     (length given ≡ length (allCycles (callsOf calls)))
     × Demanded (readList words .list) (cycleAt (allCycles (callsOf calls))) (length (allCycles (callsOf calls))) (λ i. wordsIn given i .channel)
@@ -30,6 +30,6 @@ BoardDemand3 =
 abbrev pub BoardShownNx : Type 0
 BoardShownNx =
     (words : List ℕ) (values : List ℤ) (state : List ℕ) (values′ : List ℤ) (state′ : List ℕ) (at : ℕ) →
-    ReadListEnsures words values state 0 values′ state′ at →
+    leftByList 0 values′ state′ at ≡ listInto words values state →
     (calls : List BoardCall) (given : List Words) → ImageAnswers values′ state′ calls given → (n : ℕ) → n < length (allCycles (callsOf calls)) →
     T (bitOf (wordsIn given n .channel) 21) ↔ ShownAt (λ i. readList words .list) (cycleAt (allCycles (callsOf calls))) n

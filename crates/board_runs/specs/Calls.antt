@@ -8,8 +8,8 @@ use lib.IntN.{ℤ}
 use Rattle.device.specs.Device.{deviceOf}
 use Rattle.image.specs.Image.{channelFrom}
 use Rattle.crossing_reports.specs.Reports.{givenFrom}
-use Rattle.axis_monitor.specs.Ensures.{CycleEnsures}
-use Rattle.axis_logs.specs.Ensures.{RunLogEnsures}
+use Rattle.axis_monitor.specs.Left.{leftByCycle, cycleOn}
+use Rattle.axis_logs.specs.Left.{leftByLog, logOver}
 use Rattle.demand_3.specs.Calls.{Side, own, Call, single, logged, Words, wordsFrom}
 
 -- "a single cycle, then the device word of its channel word and the other's": position, input word, acknowledgement, the report's words, the other channel's
@@ -27,11 +27,12 @@ givenWords s number at out = cond (eqb number 0) (wordsFrom s out 0 at) []
 pub data ImageAnswered (values : List ℤ) (state : List ℕ) : BoardCall → List ℕ → List Words → Type 0 where
   -- monitor_cycle, then monitor_device_word
   cycled : {position : ℤ} {inputs acknowledged other : ℕ} {report : List ℕ} (w device : ℕ) (state′ codes′ : List ℕ) →
-      CycleEnsures values state (givenFrom position inputs acknowledged report) w state′ codes′ → device ≡ deviceOf w other →
+      leftByCycle values w state′ codes′ ≡ cycleOn values state (givenFrom position inputs acknowledged report) → device ≡ deviceOf w other →
       ImageAnswered values state (cycle position inputs acknowledged report other) state′ (record { channel = w; device = device } ∷ [])
   -- monitor_run_log
   ran : {s : Side} {values-o : List ℤ} {state-o words out : List ℕ} (number at : ℕ) (state-a′ state-b′ out′ : List ℕ) →
-      RunLogEnsures (own s values values-o) (own s state state-o) (own s values-o values) (own s state-o state) words out number state-a′ state-b′ out′ at →
+      leftByLog (own s values values-o) (own s values-o values) number state-a′ state-b′ out′ at
+      ≡ logOver (own s values values-o) (own s state state-o) (own s values-o values) (own s state-o state) words out →
       ImageAnswered values state (log s values-o state-o words out) (own s state-a′ state-b′) (givenWords s number at out′)
 
 -- "Each call gets the working channel as the last one returned or left it": no call alters the data, and each gets the state that the last one left

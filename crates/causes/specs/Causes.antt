@@ -6,13 +6,17 @@ use mathlib.Core.List.{List, [], _∷_, List·Memᴰ}
 use lib.Dec.{eqb}
 use Rattle.rank.specs.Rank.{strongerOf}
 use Rattle.rank.specs.declared.Rank.{Rank}
-use Rattle.rank.specs.declared.Rank.the-variants.{None}
+use Rattle.rank.specs.declared.Rank.the-variants.{None, A}
 use Rattle.causes.specs.declared.Cause.{Cause}
 use Rattle.causes.specs.declared.Summary.{Summary}
 
 -- a row: a code, whether the cause stands, and its rank
 abbrev pub cause : ℕ → Bool → Rank → Cause
 cause code stands rank = record { code = code; stands = stands; rank = rank }
+
+-- "Unusable: cause 1, rank 5": the table of a cycle that cannot be used
+abbrev pub unusableTable : List Cause
+unusableTable = cause 1 true A ∷ []
 
 -- causes 2 to 13: how many rows the table of a usable cycle has
 abbrev pub rowCount : ℕ

@@ -1,3 +1,3 @@
 pub mod Cycle
 pub mod Word
-pub mod Ensures
+pub mod Outcome

@@ -2,9 +2,9 @@
 ghost use mathlib.Core.Path.{_≡_};
 ghost use Rattle.machine_data.specs.Data.{lent};
 ghost use Rattle.channel.specs.Cycle.{freshChannel, withState};
-ghost use Rattle.channel.specs.Ensures.{AdvanceEnsures, CycledEnsures, CycleEnsures};
+ghost use Rattle.channel.specs.Outcome.{advanced, cycled, outcomeOf};
 use advance::Advanced;
-use causes::Causes;
+use codes::Causes;
 use machine_data::MachineData;
 use machine_data::Values;
 use state::Given;
@@ -32,7 +32,7 @@ pub struct Outcome {
 
 // A cycle of a state beside its data, without its causes: what a log needs.
 pub fn advance(values: &Values, count: usize, state: State, given: Given) -> Advanced
-    ensures { λ r. ⌜ AdvanceEnsures (lent (now (values .entry)) count) state given r ⌝ }
+    ensures { λ r. ⌜ r ≡ advanced (lent (now (values .entry)) count) state given ⌝ }
 {
     if inputs::usable(values, count, given.reading) {
         let findings = judge::judge(values, count, state, given);
@@ -62,7 +62,7 @@ pub fn with_state(channel: Channel, state: State) -> Channel
 
 // A cycle of a state beside its data, with no copy of them.
 fn cycle_on(values: &Values, count: usize, state: State, given: Given) -> Cycled
-    ensures { λ r. ⌜ CycledEnsures (lent (now (values .entry)) count) state given r ⌝ }
+    ensures { λ r. ⌜ r ≡ cycled (lent (now (values .entry)) count) state given ⌝ }
 {
     if inputs::usable(values, count, given.reading) {
         let findings = judge::judge(values, count, state, given);
@@ -88,7 +88,7 @@ fn cycle_on(values: &Values, count: usize, state: State, given: Given) -> Cycled
 
 // A cycle of a channel.
 pub fn cycle(channel: Channel, given: Given) -> Outcome
-    ensures { λ r. ⌜ CycleEnsures channel given r ⌝ }
+    ensures { λ r. ⌜ r ≡ outcomeOf channel given ⌝ }
 {
     let list = channel.list;
     let state = channel.state;

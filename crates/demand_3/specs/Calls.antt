@@ -1,5 +1,6 @@
 -- The calls of demand 3 and what they answer: document 01, "The runs of demand 3".
 use Prim.Native.Nat.{ℕ, zero, suc, _+_, _*_}
+use mathlib.Core.Path.{_≡_}
 use mathlib.Core.List.{List, [], _∷_, _++_}
 use lib.ListN.{getD}
 use Rattle.state.specs.declared.Given.{Given}
@@ -7,9 +8,10 @@ use Rattle.channel.specs.declared.Channel.{Channel}
 use Rattle.log.specs.declared.LogRun.{LogRun}
 use Rattle.log.specs.declared.LogAnswer.{LogAnswer}
 use Rattle.log.specs.declared.LogAnswer.the-variants.{Accepted, Refused}
-use Rattle.log.specs.Ensures.{LogEnsures}
+use Rattle.log.specs.Run.{ranOf}
+use Rattle.log.specs.Left.{leftBy}
 use Rattle.single.specs.declared.SingleOutcome.{SingleOutcome}
-use Rattle.single.specs.Ensures.{SingleEnsures}
+use Rattle.single.specs.Single.{singleOf}
 
 -- "with the working channel as A or B"
 pub data Side : Type 0 where
@@ -51,9 +53,9 @@ answeredWords s (Refused why) out = []
 -- a call with the working channel c is answered: the channel that it returns or leaves, and the words that it gives. What is asked
 -- of the answer is what the contracts of the functions ensure, and no more.
 pub data Answered (c : Channel) : Call → Channel → List Words → Type 0 where
-  cycled : {g : Given} {other : ℕ} (r : SingleOutcome) → SingleEnsures c g other r →
+  cycled : {g : Given} {other : ℕ} (r : SingleOutcome) → r ≡ singleOf c g other →
       Answered c (single g other) (r .channel) (record { channel = r .word; device = r .device } ∷ [])
-  ran : {s : Side} {o : Channel} {words out : List ℕ} (r : LogRun) (out′ : List ℕ) → LogEnsures (own s c o) (own s o c) words out r out′ →
+  ran : {s : Side} {o : Channel} {words out : List ℕ} (r : LogRun) (out′ : List ℕ) → leftBy r out′ ≡ ranOf (own s c o) (own s o c) words out →
       Answered c (logged s o words out) (own s (r .a) (r .b)) (answeredWords s (r .answer) out′)
 
 -- "Each call gets the working channel as the last one returned or left it"

@@ -7,7 +7,7 @@ use Rattle.state.specs.declared.State.{State}
 use Rattle.crossing.proofs.Back.{signed-back, yes-back}
 use Rattle.image_cases.proofs.Back.{byte-back, previous-back, selection-back, stop-back}
 use Rattle.image.specs.Image.{countFrom, stateFrom, stateWords, Fits}
-use Rattle.image.specs.Ensures.{WordsEnsures}
+use Rattle.image.specs.Written.{writtenAs, writing}
 
 -- a channel that goes out and comes back is the same channel: its state, and the count of its list
 pub comes-back : (count : ℕ) (s : State) → Fits s → stateFrom (stateWords count s) ≡ s
@@ -41,5 +41,8 @@ pub count-comes-back : (count : ℕ) (s : State) → count < 4_294_967_296 → c
 count-comes-back count s h = omega (arith, count-kept count s)
 
 -- the words as the machine puts them together, where each part is its definition's
-pub written : (count : ℕ) (s : State) → Fits s → {w : List ℕ} → w ≡ stateWords count s → WordsEnsures count s w
-written count s h {w} e = record { words = e; state-back = ap stateFrom e ∙ comes-back count s h; count-back = ap countFrom e ∙ count-kept count s }
+pub written : (count : ℕ) (s : State) → Fits s → {w : List ℕ} → w ≡ stateWords count s → writtenAs w ≡ writing count s
+written count s h e =
+    let state = ap stateFrom e ∙ comes-back count s h in
+    let back = ap countFrom e ∙ count-kept count s in
+    λ i. record { words = e i; state = state i; count = back i }

@@ -3,7 +3,7 @@
 ghost use mathlib.Core.Path.{_≡_};
 ghost use Prim.Native.Nat.{_<_};
 ghost use Rattle.image.specs.Image.{countFrom, stateFrom};
-ghost use Rattle.image.specs.Ensures.{WordsEnsures};
+ghost use Rattle.image.specs.Written.{writtenAs, writing};
 use comparison::Fault;
 use nx_signal::Signal;
 use selection::Choice;
@@ -55,7 +55,7 @@ pub fn state_from(words: &Image) -> State
 
 // The words of a count and a state; a count of 2^32 or more, which no list has, is kept modulo 2^32.
 pub fn words_of(count: usize, state: State) -> Image
-    ensures { λ r. ⌜ WordsEnsures count state r ⌝ }
+    ensures { λ r. ⌜ writtenAs r ≡ writing count state ⌝ }
 {
     let kept = state.kept;
     let choice = kept.choice;

@@ -1,6 +1,6 @@
 -- Steps 2 to 4 of a cycle: what moved, what is effective, and the table of causes. Document 01, "One cycle of a channel"; and n<nx, W3.
 use Prim.Native.Nat.{ℕ}
-use mathlib.Core.Bool.{Bool, true, cond, _||_}
+use mathlib.Core.Bool.{Bool, cond, _||_}
 use mathlib.Core.List.{List, [], _∷_}
 use Rattle.machine_data.specs.declared.MachineData.{MachineData}
 use Rattle.distance.specs.declared.Previous.{Previous}
@@ -22,7 +22,7 @@ use Rattle.comparison.specs.declared.Fault.{Fault}
 use Rattle.comparison.specs.Comparison.{positionDiffers, runOf, inputsDiffer, faultNext}
 use Rattle.active.specs.Active.{faultStops}
 use Rattle.causes.specs.declared.Cause.{Cause}
-use Rattle.causes.specs.Causes.{cause, summaryOf}
+use Rattle.causes.specs.Causes.{cause, unusableTable, summaryOf}
 use Rattle.state.specs.declared.State.{State}
 use Rattle.state.specs.declared.Given.{Given}
 use Rattle.judge.specs.declared.Differences.{Differences}
@@ -100,7 +100,7 @@ usableRows m s g =
 
 -- "Unusable: cause 1, rank 5"; else the table of step 4
 unfoldable pub rowsOf : MachineData → State → Given → List Cause
-rowsOf m s g = cond (usableOf m (g .reading)) (usableRows m s g) (cause 1 true R.A ∷ [])
+rowsOf m s g = cond (usableOf m (g .reading)) (usableRows m s g) unusableTable
 
 -- what steps 2 to 4 come to in a usable cycle, and n<nx
 abbrev pub findingsOf : MachineData → State → Given → Findings

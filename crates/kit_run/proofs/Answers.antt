@@ -10,8 +10,8 @@ use Rattle.kit.specs.Kit.{readKit}
 use Rattle.kit.proofs.Lists.{rest-is, kit-used}
 use Rattle.channel.specs.declared.Channel.{Channel}
 use Rattle.channel.specs.Cycle.{freshChannel}
-use Rattle.log.specs.Ensures.{LogEnsures}
-use Rattle.log.specs.Run.{ranOf}
+use Rattle.log.specs.Left.{leftBy}
+use Rattle.log.specs.Run.{Ran, ranOf}
 use Rattle.log.specs.declared.LogRun.{LogRun}
 use Rattle.log.specs.declared.LogAnswer as L
 use Rattle.kit_run.specs.KitRun.{answerOf, ofLog, byKit, kitRan}
@@ -29,9 +29,9 @@ module _ (words out : List ℕ) {r : KitRead} (read : r ≡ readKit words) where
   log-ran {at} h = ap (λ (l : List ℕ). ofLog (ranOf (freshChannel (r .a)) (freshChannel (r .b)) l out)) (rest-is words at) ∙ by-read h
 
 -- the log's run, over channels that are the fresh ones
-module _ (a b : MachineData) (words out : List ℕ) {ca cb : Channel} (fresh-a : ca ≡ freshChannel a) (fresh-b : cb ≡ freshChannel b) {r : LogRun} {out′ : List ℕ} (ran : LogEnsures ca cb words out r out′) where
+module _ (a b : MachineData) (words out : List ℕ) {ca cb : Channel} (fresh-a : ca ≡ freshChannel a) (fresh-b : cb ≡ freshChannel b) {r : LogRun} {out′ : List ℕ} (ran : leftBy r out′ ≡ ranOf ca cb words out) where
   pub answered : {x : L.LogAnswer} → r .answer ≡ x → answerOf x ≡ ofLog (ranOf (freshChannel a) (freshChannel b) words out) .answer
-  answered h = ap answerOf (sym h ∙ ran .answer) ∙ (λ i. answerOf (ranOf (fresh-a i) (fresh-b i) words out .answer))
+  answered h = ap answerOf (sym h ∙ ap (λ (x : Ran). x .answer) ran) ∙ (λ i. answerOf (ranOf (fresh-a i) (fresh-b i) words out .answer))
 
   pub put-out : out′ ≡ ofLog (ranOf (freshChannel a) (freshChannel b) words out) .out
-  put-out = ran .output ∙ (λ i. ranOf (fresh-a i) (fresh-b i) words out .out)
+  put-out = ap (λ (x : Ran). x .out) ran ∙ (λ i. ranOf (fresh-a i) (fresh-b i) words out .out)

@@ -15,7 +15,7 @@ use Rattle.advance.specs.declared.Advanced.{Advanced}
 use Rattle.report.specs.Report.{nextK}
 use Rattle.channel.specs.Cycle.{next}
 use Rattle.channel.specs.Word.{word}
-use Rattle.channel.specs.Ensures.{AdvanceEnsures}
+use Rattle.channel.specs.Outcome.{advanced}
 use Rattle.seven.specs.declared.CycleRecord.{CycleRecord}
 use Rattle.records.specs.declared.Entry as E
 use Rattle.records.specs.Records.{entryAt, LogRead, records, fault, before, logOf}
@@ -26,7 +26,7 @@ use Rattle.records.proofs.Seven.{at-word, holds}
 use Rattle.records.proofs.Logs.{remark-at}
 use Rattle.records.proofs.Scanning.{Rest, read, record-there, at-record, at-remark, at-bad, at-end}
 use Rattle.log.specs.Alone.{givenIn, lastAlone, wordsAlone, thirds}
-use Rattle.log.specs.Ensures.{Enough, RunsAlone}
+use Rattle.log.specs.Left.{Enough, RunsAlone}
 
 -- at a place of the words and of the output, with the state s and the other's k there
 pub record Going (second : Bool) (d e : MachineData) (s₀ : State) (k₀ : ℕ) (words out₀ out : List ℕ) (s : State) (k at place : ℕ) : Type 0 where
@@ -110,14 +110,14 @@ module _ {second : Bool} {d e : MachineData} {s₀ : State} {k₀ : ℕ} {words 
         }
 
     -- t is the cycle as the machine has it, and the output has its word
-    pub stepped : {p : ℤ} {given : Given} {t : Advanced} {k′ : ℕ} → at < length words → wordOf (getD words at 0) ≡ W.Position p → given ≡ givenIn second e k (recordOf p (sixBehind words at)) → AdvanceEnsures d s given t →
+    pub stepped : {p : ℤ} {given : Given} {t : Advanced} {k′ : ℕ} → at < length words → wordOf (getD words at 0) ≡ W.Position p → given ≡ givenIn second e k (recordOf p (sixBehind words at)) → t ≡ advanced d s given →
         k′ ≡ nextK (e .count) k → Going second d e s₀ k₀ words out₀ (set out place (t .word)) (t .state) k′ (at + 7) (place + 3)
     unfolding lastAlone wordsAlone thirds
     stepped {p} {t = t} h first is cycle rises =
         let r = recordOf p (sixBehind words at) in
         let n = next-record r h (record-here h first) in
-        let state : t .state ≡ next d s (givenIn second e k r) = cycle .state ∙ ap (next d s) is in
-        let shown : t .word ≡ word d s (givenIn second e k r) = cycle .word-is ∙ ap (word d s) is in
+        let state : t .state ≡ next d s (givenIn second e k r) = ap (λ (x : Advanced). x .state) cycle ∙ ap (next d s) is in
+        let shown : t .word ≡ word d s (givenIn second e k r) = ap (λ (x : Advanced). x .word) cycle ∙ ap (word d s) is in
         record {
           all = g .all;
           rest = n .0;

@@ -1,4 +1,4 @@
 pub mod Run
 pub mod Alone
-pub mod Ensures
+pub mod Left
 pub mod IsAccepted

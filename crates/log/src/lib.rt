@@ -6,7 +6,8 @@ ghost use lib.ListN.{length};
 ghost use Rattle.machine_data.specs.Data.{lent};
 ghost use Rattle.seven.specs.Seven.{sixFrom, recordOf};
 ghost use Rattle.log.specs.Alone.{readingIn, givenIn, withDevices};
-ghost use Rattle.log.specs.Ensures.{LogEnsures, beside, StatesEnsures, refusedStates, Enough, Sound, RunsAlone};
+ghost use Rattle.log.specs.Run.{ranOf};
+ghost use Rattle.log.specs.Left.{leftBy, beside, leftBeside, refusedStates, Enough, Sound, RunsAlone};
 use channel::Channel;
 use inputs::Reading;
 use machine_data::Values;
@@ -165,7 +166,7 @@ fn accepted(
     cycles: usize,
 ) -> LogStates
     requires { ⌜ Sound (now words) (now out) cycles ⌝ }
-    ensures { λ r. ⌜ StatesEnsures (beside (now (da .entry)) na a) (beside (now (db .entry)) nb b) (now (words .entry)) (now (out .entry)) r (now (out .exit)) ⌝ }
+    ensures { λ r. ⌜ leftBeside (beside (now (da .entry)) na a) (beside (now (db .entry)) nb b) r (now (out .exit)) ≡ ranOf (beside (now (da .entry)) na a) (beside (now (db .entry)) nb b) (now (words .entry)) (now (out .entry)) ⌝ }
 {
     let la = run_channel(da, na, a, db, nb, b.k, false, words, out);
     let lb = run_channel(db, nb, b, da, na, a.k, true, words, out);
@@ -188,7 +189,7 @@ pub fn run_on(
     words: &[u32],
     out: &mut [u32],
 ) -> LogStates
-    ensures { λ r. ⌜ StatesEnsures (beside (now (da .entry)) na a) (beside (now (db .entry)) nb b) (now (words .entry)) (now (out .entry)) r (now (out .exit)) ⌝ }
+    ensures { λ r. ⌜ leftBeside (beside (now (da .entry)) na a) (beside (now (db .entry)) nb b) r (now (out .exit)) ≡ ranOf (beside (now (da .entry)) na a) (beside (now (db .entry)) nb b) (now (words .entry)) (now (out .entry)) ⌝ }
 {
     if 16384 < words.len() {
         return refused(Refusal::WrongLog(16384), a, b);
@@ -207,7 +208,7 @@ pub fn run_on(
 
 // A log over two channels.
 pub fn run_log(a: Channel, b: Channel, words: &[u32], out: &mut [u32]) -> LogRun
-    ensures { λ r. ⌜ LogEnsures a b (now (words .entry)) (now (out .entry)) r (now (out .exit)) ⌝ }
+    ensures { λ r. ⌜ leftBy r (now (out .exit)) ≡ ranOf a b (now (words .entry)) (now (out .entry)) ⌝ }
 {
     let ma = a.list;
     let mb = b.list;

@@ -1,1 +1,1 @@
-pub mod Ensures
+pub mod Single

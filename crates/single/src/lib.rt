@@ -1,7 +1,8 @@
 // A single cycle with its device word.
-ghost use Rattle.single.specs.Ensures.{SingleEnsures};
-use causes::Causes;
+ghost use mathlib.Core.Path.{_≡_};
+ghost use Rattle.single.specs.Single.{singleOf};
 use channel::Channel;
+use codes::Causes;
 use state::Given;
 
 // What a single cycle gives, with the device word of its channel word and the other's.
@@ -14,7 +15,7 @@ pub struct SingleOutcome {
 
 // A cycle of a channel, then the device word of its word and any other.
 pub fn single(channel: Channel, given: Given, other: u32) -> SingleOutcome
-    ensures { λ r. ⌜ SingleEnsures channel given other r ⌝ }
+    ensures { λ r. ⌜ r ≡ singleOf channel given other ⌝ }
 {
     let outcome = channel::cycle(channel, given);
     let after = outcome.channel;

@@ -1,16 +1,15 @@
 -- `axis_monitor::monitor_cycle` meets its contract: each way is a cycle's, and leaves what that cycle leaves. Assumes nothing.
-use mathlib.Core.Path.{_≡_, sym, ap, _∙_, subst}
+use mathlib.Core.Path.{_≡_, sym, ap, _∙_}
 use mathlib.Core.Bool.{true, false}
 use mir.Facts.{toZ-ofZ}
 use denote.Ref.{now}
 use Rattle.machine_data.specs.Data.{lent}
 use Rattle.inputs.specs.Usable.{usableOf}
-use Rattle.causes.specs.Codes.{Lists, listedIf}
+use Rattle.codes.specs.Codes.{causesIf}
 use Rattle.judge.specs.declared.Findings.{Findings}
-use Rattle.judge.specs.Causes.{rowsOf, findingsOf}
+use Rattle.judge.specs.Causes.{findingsOf}
 use Rattle.advance.specs.After.{advancedBy, advancedUnusable}
-use Rattle.channel.specs.Ensures.{AdvanceEnsures}
-use Rattle.channel.proofs.Judging.{usable-cycle, usable-lists, unusable-cycle, unusable-lists}
+use Rattle.channel.proofs.Judging.{usable-cycle, usable-causes, unusable-cycle, unusable-causes}
 use Rattle.image.specs.Image.{stateFrom}
 use Rattle.crossing_reports.specs.Reports.{givenFrom}
 use Rattle.axis_monitor.proofs.Channels.{cycled}
@@ -66,9 +65,9 @@ returns c =
     let judged : c .before .before .before .before .before .before .before .judge .result ≡ findingsOf m s g = simp (c .before .before .before .before .before .before .before .before .before .before .state-from .ensures, given) at (c .before .before .before .before .before .before .before .judge .ensures) in
     let found : c .before .before .before .before .found .result ≡ advancedBy m s g (c .before .before .before .before .before .before .before .judge .result) = simp (c .before .before .before .before .before .before .before .before .before .before .state-from .ensures, given) at (c .before .before .before .before .found .ensures) in
     cycled values w g (count .ensures .0) (count .ensures .1)
-    (subst (AdvanceEnsures m s g) (sym (found ∙ ap (advancedBy m s g) judged)) (usable-cycle m s g u))
-    (subst (Lists (rowsOf m s g)) (sym (c .before .before .before .of .ensures ∙ ap (λ (f : Findings). listedIf (f .summary .any) (f .rows)) judged)) (usable-lists m s g u))
-    (c .leave .ensures)
+    (found ∙ ap (advancedBy m s g) judged ∙ usable-cycle m s g u)
+    (c .before .before .before .of .ensures ∙ ap (λ (f : Findings). causesIf (f .summary .any) (f .rows)) judged ∙ usable-causes m s g u)
+    (c .leave .ensures .0) (c .leave .ensures .1 .0) (c .leave .ensures .1 .1)
 
 returns-2 : tie.Need-returns-2
 returns-2 c =
@@ -84,9 +83,9 @@ returns-2 c =
     let u : usableOf m (g .reading) ≡ false = simp given at (sym (c .before .before .before .before .before .before .usable .ensures) ∙ c .before .before .before .before .before .if1 .left) in
     let skipped : c .before .before .before .before .skipped .result ≡ advancedUnusable m s = simp (c .before .before .before .before .before .before .before .state-from .ensures) at (c .before .before .before .before .skipped .ensures) in
     cycled values w g (count .ensures .0) (count .ensures .1)
-    (subst (AdvanceEnsures m s g) (sym skipped) (unusable-cycle m s g u))
-    (subst (Lists (rowsOf m s g)) (sym (c .before .before .before .unusable .ensures)) (unusable-lists m s g u))
-    (c .leave2 .ensures)
+    (skipped ∙ unusable-cycle m s g u)
+    (c .before .before .before .unusable .ensures ∙ unusable-causes m s g u)
+    (c .leave2 .ensures .0) (c .leave2 .ensures .1 .0) (c .leave2 .ensures .1 .1)
 
 pub monitor-cycle-spec : {M : Type 1} → statement M
 monitor-cycle-spec =

@@ -8,7 +8,7 @@ use Rattle.report.specs.declared.Report.{Report}
 use mir.Val.{SFits}
 use mir.Facts.{toZ-ofZ}
 use denote.Ref.{now}
-use Rattle.axis_monitor.specs.Ensures.{reportedBy}
+use Rattle.axis_monitor.specs.Left.{reportedBy}
 use borrow.Author.Needs.{needs}
 use Rattle.axis_monitor.proofs.monitor_report.Statement.{statement}
 use Rattle.axis_monitor.proofs.monitor_report.Tie as tie
@@ -29,7 +29,9 @@ returns : tie.Need-returns
 returns c = let a = c .before .before .before .before .args in let f : SFits w32 (a .position) = c .before .before .before .before .fits .position in
     let e : c .before .report-of .result ≡ reportedBy (now (a .values)) (now (a .state)) (a .position) (a .inputs) = simp (c .before .report-of .ensures) (simp (toZ-ofZ f, c .before .before .state-from .ensures, c .before .before .before .count-of .ensures .0)) in
     let few : c .before .report-of .result .head < 4_294_967_296 = omega (arith, ap (λ (r : Report). r .head) (c .before .report-of .ensures), c .before .before .before .count-of .ensures .1) in
-    record { words = c .report-words .ensures .0 ∙ ap reportWords e; back = c .report-words .ensures .1 few ∙ e }
+    let words = c .report-words .ensures .0 ∙ ap reportWords e in
+    let back = c .report-words .ensures .1 few ∙ e in
+    λ i. record { words = words i; report = back i }
 
 pub monitor-report-spec : {M : Type 1} → statement M
 monitor-report-spec =

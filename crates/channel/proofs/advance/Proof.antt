@@ -1,11 +1,10 @@
 -- `channel::advance` meets its contract: what is found is what steps 2 to 4 find. Assumes nothing.
-use mathlib.Core.Path.{_≡_, sym, ap, _∙_, subst}
+use mathlib.Core.Path.{_≡_, sym, ap, _∙_}
 use mathlib.Core.Bool.{true, false}
 use denote.Ref.{now}
 use Rattle.machine_data.specs.Data.{lent}
 use Rattle.inputs.specs.Usable.{usableOf}
 use Rattle.advance.specs.After.{advancedBy}
-use Rattle.channel.specs.Ensures.{AdvanceEnsures}
 use Rattle.channel.proofs.Judging.{usable-cycle, unusable-cycle}
 use borrow.Author.Needs.{needs}
 use Rattle.channel.proofs.advance.Statement.{statement}
@@ -26,12 +25,12 @@ skipped-requires c κs = search needs
 returns : tie.Need-returns
 returns c = let a = c .before .before .before .before .args in let m = lent (now (a .values)) (a .count) in
     let u : usableOf m (a .given .reading) ≡ true = sym (c .before .before .before .usable .ensures) ∙ c .before .before .if1 .taken in
-    subst (AdvanceEnsures m (a .state) (a .given)) (sym (c .found .ensures ∙ ap (advancedBy m (a .state) (a .given)) (c .before .judge .ensures))) (usable-cycle m (a .state) (a .given) u)
+    c .found .ensures ∙ ap (advancedBy m (a .state) (a .given)) (c .before .judge .ensures) ∙ usable-cycle m (a .state) (a .given) u
 
 returns-2 : tie.Need-returns-2
 returns-2 c = let a = c .before .before .before .args in let m = lent (now (a .values)) (a .count) in
     let u : usableOf m (a .given .reading) ≡ false = sym (c .before .before .usable .ensures) ∙ c .before .if1 .left in
-    subst (AdvanceEnsures m (a .state) (a .given)) (sym (c .skipped .ensures)) (unusable-cycle m (a .state) (a .given) u)
+    c .skipped .ensures ∙ unusable-cycle m (a .state) (a .given) u
 
 pub advance-spec : {M : Type 1} → statement M
 advance-spec =

@@ -1,5 +1,6 @@
 -- `channel::cycle` meets its contract, as `cycle_on` does. Assumes nothing.
 use mathlib.Core.Path.{ap, _∙_}
+use Rattle.channel.specs.declared.Cycled.{Cycled}
 use Rattle.channel.specs.Cycle.{withState}
 use borrow.Author.Needs.{needs}
 use Rattle.channel.proofs.cycle.Statement.{statement}
@@ -13,11 +14,9 @@ with-state-requires c κs = search needs
 
 returns : tie.Need-returns
 returns c = let a = c .before .before .before .before .before .before .before .before .args in
-    record {
-      channel = c .with-state .ensures ∙ ap (withState (a .channel)) (c .before .before .before .cycle-on .ensures .state);
-      word-is = c .before .before .before .cycle-on .ensures .word-is;
-      causes = c .before .before .before .cycle-on .ensures .causes;
-    }
+    let went = c .before .before .before .cycle-on .ensures in
+    let channel = c .with-state .ensures ∙ ap (λ (r : Cycled). withState (a .channel) (r .state)) went in
+    λ i. record { channel = channel i; word = went i .word; causes = went i .causes }
 
 pub cycle-spec : {M : Type 1} → statement M
 cycle-spec = tie.close (tie.spec cycle-on-requires with-state-requires returns)

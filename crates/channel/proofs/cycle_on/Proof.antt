@@ -1,15 +1,14 @@
 -- `channel::cycle_on` meets its contract: what is found is what steps 2 to 4 find, and the list of causes is that of the same rows. Assumes nothing.
-use mathlib.Core.Path.{_≡_, sym, ap, _∙_, subst}
+use mathlib.Core.Path.{_≡_, sym, ap, _∙_}
 use mathlib.Core.Bool.{true, false}
 use denote.Ref.{now}
 use Rattle.machine_data.specs.Data.{lent}
 use Rattle.inputs.specs.Usable.{usableOf}
-use Rattle.causes.specs.Codes.{Lists, listedIf}
+use Rattle.codes.specs.Codes.{causesIf}
 use Rattle.judge.specs.declared.Findings.{Findings}
-use Rattle.judge.specs.Causes.{rowsOf}
 use Rattle.advance.specs.After.{advancedBy}
-use Rattle.channel.specs.Ensures.{AdvanceEnsures}
-use Rattle.channel.proofs.Judging.{usable-cycle, usable-lists, unusable-cycle, unusable-lists}
+use Rattle.channel.specs.Outcome.{causesIn, advanced}
+use Rattle.channel.proofs.Judging.{usable-cycle, usable-causes, unusable-cycle, unusable-causes}
 use borrow.Author.Needs.{needs}
 use Rattle.channel.proofs.cycle_on.Statement.{statement}
 use Rattle.channel.proofs.cycle_on.Tie as tie
@@ -35,22 +34,17 @@ unusable-requires c κs = search needs
 returns : tie.Need-returns
 returns c = let a = c .before .before .before .before .before .before .before .before .args in let m = lent (now (a .values)) (a .count) in let s = a .state in
     let u : usableOf m (a .given .reading) ≡ true = sym (c .before .before .before .before .before .before .before .usable .ensures) ∙ c .before .before .before .before .before .before .if1 .taken in
-    let e : AdvanceEnsures m s (a .given) (c .before .before .found .result) = subst (AdvanceEnsures m s (a .given)) (sym (c .before .before .found .ensures ∙ ap (advancedBy m s (a .given)) (c .before .before .before .before .before .judge .ensures))) (usable-cycle m s (a .given) u) in
-    record {
-      state = e .state;
-      word-is = e .word-is;
-      causes = subst (Lists (rowsOf m s (a .given))) (sym (c .of .ensures ∙ ap (λ (f : Findings). listedIf (f .summary .any) (f .rows)) (c .before .before .before .before .before .judge .ensures))) (usable-lists m s (a .given) u);
-    }
+    let judged = c .before .before .before .before .before .judge .ensures in
+    let went : c .before .before .found .result ≡ advanced m s (a .given) = c .before .before .found .ensures ∙ ap (advancedBy m s (a .given)) judged ∙ usable-cycle m s (a .given) u in
+    let codes : c .of .result ≡ causesIn m s (a .given) = c .of .ensures ∙ ap (λ (f : Findings). causesIf (f .summary .any) (f .rows)) judged ∙ usable-causes m s (a .given) u in
+    λ i. record { state = went i .state; word = went i .word; causes = codes i }
 
 returns-2 : tie.Need-returns-2
 returns-2 c = let a = c .before .before .before .before .before .args in let m = lent (now (a .values)) (a .count) in let s = a .state in
     let u : usableOf m (a .given .reading) ≡ false = sym (c .before .before .before .before .usable .ensures) ∙ c .before .before .before .if1 .left in
-    let e : AdvanceEnsures m s (a .given) (c .before .before .skipped .result) = subst (AdvanceEnsures m s (a .given)) (sym (c .before .before .skipped .ensures)) (unusable-cycle m s (a .given) u) in
-    record {
-      state = e .state;
-      word-is = e .word-is;
-      causes = subst (Lists (rowsOf m s (a .given))) (sym (c .unusable .ensures)) (unusable-lists m s (a .given) u);
-    }
+    let went : c .before .before .skipped .result ≡ advanced m s (a .given) = c .before .before .skipped .ensures ∙ unusable-cycle m s (a .given) u in
+    let codes : c .unusable .result ≡ causesIn m s (a .given) = c .unusable .ensures ∙ unusable-causes m s (a .given) u in
+    λ i. record { state = went i .state; word = went i .word; causes = codes i }
 
 pub cycle-on-spec : {M : Type 1} → statement M
 cycle-on-spec =

@@ -1,7 +1,7 @@
 -- `log::accepted` meets its contract: the channels run one after the other, then come the device words. Assumes nothing.
 use native.Mathlib.Omega.{arith}
 use denote.Ref.{now}
-use Rattle.log.specs.Ensures.{beside}
+use Rattle.log.specs.Left.{beside}
 use Rattle.log.proofs.Answers.{ran}
 use borrow.Author.Needs.{needs}
 use Rattle.log.proofs.accepted.Statement.{statement}

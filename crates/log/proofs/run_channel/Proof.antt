@@ -11,7 +11,7 @@ use Rattle.seven.specs.Seven.{sixFrom, recordOf}
 use Rattle.seven.proofs.ByBits.{six-there}
 use Rattle.records.proofs.Seven.{begins-none}
 use Rattle.log.specs.Alone.{givenIn}
-use Rattle.log.specs.Ensures.{beside}
+use Rattle.log.specs.Left.{beside}
 use Rattle.log.proofs.Going.{Going, starts, there, remarked, stepped, ended}
 use Rattle.log.proofs.run_channel.Statement.{statement}
 use Rattle.log.proofs.run_channel.Tie as tie

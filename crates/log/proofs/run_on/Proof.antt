@@ -2,7 +2,7 @@
 use mathlib.Core.Path.{sym, _∙_}
 use native.Mathlib.Omega.{arith}
 use denote.Ref.{now}
-use Rattle.log.specs.Ensures.{beside}
+use Rattle.log.specs.Left.{beside}
 use Rattle.log.proofs.Answers.{too-long, bad-word, no-room, sound, few-cycles}
 use borrow.Author.Needs.{needs}
 use Rattle.log.proofs.run_on.Statement.{statement}

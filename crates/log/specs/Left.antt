@@ -1,4 +1,4 @@
--- What the run of a log ensures: its answer, both channels and the whole output as values.
+-- What the run of a log leaves, as one value: its answer, both channels and the whole output.
 use Prim.Native.Nat.{ℕ, _*_, _≤_}
 use mathlib.Core.Path.{_≡_}
 use mathlib.Core.Bool.{Bool, cond}
@@ -16,22 +16,20 @@ use Rattle.refusal.specs.declared.Refusal.{Refusal}
 use Rattle.log.specs.declared.LogRun.{LogRun}
 use Rattle.log.specs.declared.LogStates.{LogStates}
 use Rattle.log.specs.declared.LogAnswer.the-variants.{Refused}
-use Rattle.log.specs.Run.{ranOf}
+use Rattle.log.specs.Run.{Ran}
 use Rattle.log.specs.Alone.{lastAlone, wordsAlone, thirds}
 
-pub record LogEnsures (a b : Channel) (words out : List ℕ) (r : LogRun) (out′ : List ℕ) : Type 0 where
-  pub answer : r .answer ≡ ranOf a b words out .answer
-  pub channel-a : r .a ≡ ranOf a b words out .a
-  pub channel-b : r .b ≡ ranOf a b words out .b
-  pub output : out′ ≡ ranOf a b words out .out
+-- what a run leaves, as one value
+abbrev pub leftBy : LogRun → List ℕ → Ran
+leftBy r out′ = record { answer = r .answer; a = r .a; b = r .b; out = out′ }
 
 -- a state beside its data is a channel
 abbrev pub beside : List ℤ → ℕ → State → Channel
 beside values count s = record { list = lent values count; state = s }
 
 -- the same of two states: the channels keep their data
-abbrev pub StatesEnsures : Channel → Channel → List ℕ → List ℕ → LogStates → List ℕ → Type 0
-StatesEnsures a b words out r out′ = LogEnsures a b words out (record { answer = r .answer; a = withState a (r .a); b = withState b (r .b) }) out′
+abbrev pub leftBeside : Channel → Channel → LogStates → List ℕ → Ran
+leftBeside a b r out′ = record { answer = r .answer; a = withState a (r .a); b = withState b (r .b); out = out′ }
 
 -- ---- of the private functions
 

@@ -15,7 +15,7 @@ Data, State, Report, Codes = c_int32 * 69, c_uint32 * 19, c_uint32 * 4, c_uint8 
 
 def main(library, kit, cycles=None):
     monitor = CDLL(library)
-    if monitor.monitor_interface() != 4:
+    if monitor.monitor_interface() != 5:
         sys.exit("desk: the library has another interface")
     monitor.monitor_report.argtypes = [Data, State, c_int32, c_uint32, Report]
     monitor.monitor_cycle.argtypes = [Data, State, c_int32, c_uint32, c_uint32, Report, Codes]
@@ -38,7 +38,7 @@ def main(library, kit, cycles=None):
             monitor.monitor_report(*channels[side], *given[side], reports[side])
         a, b = [monitor.monitor_cycle(*channels[side], *given[side], "ack" in ack, reports[1 - side], codes[side]) for side in (0, 1)]
         device = monitor.monitor_device_word(a, b)
-        causes = [",".join(CAUSES[code] for code in sorted(set(stand) - {0}) or [0]) for stand in codes]
+        causes = [",".join(CAUSES[code] for code in filter(None, stand)) or "-" for stand in codes]
         print(f"{cycle} {a:08x} {b:08x} {device:x} {RANKS[device >> 1]} A:{causes[0]} B:{causes[1]}")
 
 

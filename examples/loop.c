@@ -96,16 +96,12 @@ static uint32_t device_cycle(monitor_channel channel[2], const struct given *giv
     return monitor_device_word(word[0], word[1]);
 }
 
-/* The causes by name, in the order of their codes: the library leaves the order open. */
+/* The causes by name, as the library orders them: the strongest first. */
 static void print_causes(const uint8_t causes[MONITOR_CODES]) {
-    const char *before = "";
-    int code;
-    for (code = 1; code <= MONITOR_CODES; code++)
-        if (memchr(causes, code, MONITOR_CODES) != NULL) {
-            printf("%s%s", before, CAUSES[code]);
-            before = ",";
-        }
-    if (*before == '\0') putchar('-');
+    int place;
+    if (causes[0] == 0) putchar('-');
+    for (place = 0; place < MONITOR_CODES && causes[place] != 0; place++)
+        printf("%s%s", place > 0 ? "," : "", CAUSES[causes[place]]);
 }
 
 /* Waits for the next multiple of the period; 0 where it is past already. */

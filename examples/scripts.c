@@ -23,8 +23,7 @@ static monitor_channel channel[CHANNELS], before[CHANNELS];
 static size_t make(uint32_t call, const uint32_t *in, size_t n, uint32_t *answer, uint32_t *may) {
     monitor_channel *x = &channel[in[0] % CHANNELS], *y = &channel[in[1] % CHANNELS];
     uint8_t causes[MONITOR_CODES];
-    size_t at = 0, length = 0, i;
-    int code;
+    size_t at = 0, length, i;
     *may = 0;
     switch (call) {
     case 1: /* list: channel, words */
@@ -37,12 +36,12 @@ static size_t make(uint32_t call, const uint32_t *in, size_t n, uint32_t *answer
         return MONITOR_REPORT;
     case 3: /* cycle: channel, position, inputs, acknowledged, the report's four words */
         memset(causes, 255, sizeof causes);
-        answer[length++] = monitor_cycle(x->data, x->state, (int32_t)in[1], in[2], in[3], in + 4, causes);
-        for (code = 1; code < 256; code++) /* in order; 0 for a code that stands behind a 0 */
-            for (i = 0; i < MONITOR_CODES; i++)
-                if (causes[i] == code) answer[length++] = i > 0 && causes[i - 1] == 0 ? 0 : (uint32_t)code;
+        answer[0] = monitor_cycle(x->data, x->state, (int32_t)in[1], in[2], in[3], in + 4, causes);
+        length = MONITOR_CODES; /* the codes as they stand, without the zeros behind them */
+        while (length > 0 && causes[length - 1] == 0) length--;
+        for (i = 0; i < length; i++) answer[1 + i] = causes[i];
         *may = 1u << in[0];
-        return length;
+        return 1 + length;
     case 4: /* device: two channel words */
         answer[0] = monitor_device_word(in[0], in[1]);
         return 1;

@@ -113,10 +113,11 @@ fn a_cycle_takes_any_numbers() {
                     }
                 };
                 if deviation.is_none() {
-                    let mut codes = cycle.causes.codes().to_vec();
+                    let mut codes: Vec<u8> = cycle.causes.codes().collect();
+                    let stand = codes.len();
                     codes.sort();
                     codes.dedup();
-                    assert_eq!(codes.len(), cycle.causes.codes().len());
+                    assert_eq!(codes.len(), stand);
                     assert!(codes.iter().all(|code| (1..=13).contains(code)));
                     assert_eq!(cycle.word & 0xe046_007a, 0, "{:08x}", cycle.word);
                     let device = device::word(cycle.word, random.next() as u32);

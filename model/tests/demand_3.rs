@@ -49,7 +49,7 @@ fn cycle(
     Seen {
         usable,
         clears: acknowledged && !cycle.causes.any_fresh(),
-        causes: cycle.causes.codes().to_vec(),
+        causes: cycle.causes.codes().collect(),
         entered: (usable && strongest > before.stop().rank).then(|| strongest.number()),
         selected: Selection::of(Paper, channel.data(), inputs),
         effective: channel.selections().effective,

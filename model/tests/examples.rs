@@ -127,10 +127,12 @@ fn lines(kit: &[u8], records: &[Record]) -> String {
     text
 }
 
-/// The names of the causes that stand, in the order of their codes.
+/// The names of the causes that stand, as they do.
 fn names(causes: &Causes) -> String {
-    let stand = (1..).zip(CAUSES).filter(|&(code, _)| causes.stands(code));
-    let names: Vec<_> = stand.map(|(_, name)| name).collect();
+    let names: Vec<_> = causes
+        .codes()
+        .map(|code| CAUSES[usize::from(code) - 1])
+        .collect();
     match names.is_empty() {
         true => "-".into(),
         false => names.join(","),

@@ -4,8 +4,10 @@ mod common;
 use common::beside;
 use model::channel::image::{word, Lent};
 use model::list::Refusal;
+use model::machine_data::COUNT;
 use model::script::{self, Board, Call, Cycle, Model, Script};
 use model::{log, MachineData};
+use std::cell::Cell;
 use std::fs;
 
 fn scripts() -> Vec<Script> {
@@ -102,6 +104,7 @@ impl<const N: u32> Board for Wrong<N> {
     fn list(channel: &mut Lent, words: &[u32]) -> Result<usize, Refusal> {
         let before = channel.clone();
         let answer = Model::list(channel, words);
+        LAST.set([0; 13]);
         match N {
             // A refused list leaves no channel.
             1 if answer.is_err() => *channel = Model::none(),
@@ -206,6 +209,10 @@ impl<const N: u32> Board for Wrong<N> {
             by_what_is_active::<N>(channel, &old, &mut cycle);
         }
         by_nx::<N>(channel, &old, unusable);
+        if let 77..=138 = N {
+            let seen = Seen::of(channel, &old, inputs, acknowledged, &cycle);
+            cycle.codes = in_order::<N>(&seen);
+        }
         cycle
     }
 
@@ -373,6 +380,198 @@ fn by_nx<const N: u32>(channel: &mut Lent, old: &[u32], unusable: bool) {
     }
 }
 
+/// What wrong boards order the codes by.
+struct Seen {
+    /// The codes that stand, upwards.
+    codes: Vec<u8>,
+    data: [i32; COUNT],
+    /// The list has as many data.
+    head: u32,
+    /// The effective SG, in this cycle and in the one before, and the one in the input word.
+    sg: usize,
+    sg_before: usize,
+    sg_given: usize,
+    acknowledged: bool,
+    f_before: bool,
+    /// The rank before this cycle, and the one that its word shows.
+    rank_before: i32,
+    rank_shown: i32,
+    /// STOP B would be STOP A at once: by its time of 0, by the shutdown speed.
+    at_once: bool,
+    slow: bool,
+}
+
+impl Seen {
+    fn of(channel: &Lent, old: &[u32], inputs: u32, acknowledged: u32, cycle: &Cycle) -> Seen {
+        let (data, state) = (*channel.data(), channel.state());
+        let mut codes: Vec<u8> = cycle.codes.into_iter().filter(|&code| code != 0).collect();
+        codes.sort_unstable();
+        let at_rest = old[word::HAS_PREVIOUS] == 0 || old[word::PREVIOUS] == state[word::PREVIOUS];
+        Seen {
+            codes,
+            data,
+            head: state[word::COUNT],
+            sg: state[word::SG] as usize & 3,
+            sg_before: old[word::SG] as usize & 3,
+            sg_given: (inputs >> 3 & 3) as usize,
+            acknowledged: acknowledged != 0,
+            f_before: old[word::F] != 0,
+            rank_before: match old[word::STOP] {
+                3 => 5,
+                _ => old[word::RANK] as i32,
+            },
+            rank_shown: (cycle.word >> 24 & 7) as i32,
+            at_once: data[32] == 0,
+            slow: at_rest && data[33] > 0,
+        }
+    }
+
+    fn stands(&self, code: u8) -> bool {
+        self.codes.contains(&code)
+    }
+
+    /// A cause's own rank, 0 for none.
+    fn rank(&self, code: u8) -> i32 {
+        match code {
+            1 | 5 => 5,
+            2 | 9 | 13 => 4,
+            3 => self.data[7 + self.sg],
+            4 => self.data[15],
+            6 => 3,
+            7 => 2,
+            8 => 1,
+            _ => 0,
+        }
+    }
+
+    fn strongest(&self) -> Option<u8> {
+        let codes = self.codes.iter().rev().copied();
+        codes.max_by_key(|&code| self.rank(code))
+    }
+}
+
+/// The rank by which a wrong board sorts a cause, the greatest first.
+fn wrong_rank<const N: u32>(seen: &Seen, code: u8) -> i32 {
+    let rank = seen.rank(code);
+    match (N, code) {
+        // By code alone, as before; the weakest first, those without a rank last or first; those without a rank first.
+        (77, _) => 0,
+        (78, _) if rank > 0 => 6 - rank,
+        (79, _) => -rank,
+        (80, _) if rank == 0 => 6,
+        // SG always before SE, or behind it.
+        (90, 3) if seen.stands(4) => rank.max(seen.rank(4)),
+        (91, 4) if seen.stands(3) => rank.max(seen.rank(3)),
+        // SG and SE by a fixed rank: C, A, E.
+        (92, 3) | (93, 4) => 3,
+        (94, 3) => 5,
+        (95, 4) | (96, 3) => 1,
+        // SG by the stop of SG1, of the SG in the input word, of the one before, of the next one, or by SE's; SE by SG's.
+        (97, 3) => seen.data[7],
+        (98, 3) => seen.data[7 + seen.sg_given],
+        (99, 3) => seen.data[7 + seen.sg_before],
+        (100, 3) => seen.data[8 + seen.sg],
+        (101, 3) => seen.rank(4),
+        (102, 4) if seen.stands(3) => seen.rank(3),
+        // 13 without a rank, behind 10 to 12 or before them; as A.
+        (103 | 104, 13) => 0,
+        (105, 13) => 5,
+        // As A where STOP B is STOP A at once: 13, 9, 2, all of rank 4; these by the shutdown speed.
+        (106, 13) | (107, 9) | (108, 2) if seen.at_once => 5,
+        (109, _) if rank == 4 && seen.at_once => 5,
+        (110, _) if rank == 4 && seen.slow => 5,
+        // 9 by the rank of the stop that was held; without a rank.
+        (111, 9) => seen.rank_before,
+        (112, 9) => 0,
+        // Those of the rank that the word shows first; those above the rank before; the first of the strongest.
+        (113, _) => (rank == seen.rank_shown).into(),
+        (114, _) if rank <= seen.rank_before => 0,
+        (115, _) => (Some(code) == seen.strongest()).into(),
+        // Two ranks the other way about: A and B, B and C, C and D, D and E.
+        (116, _) => [0, 1, 2, 3, 5, 4][rank as usize],
+        (117, _) => [0, 1, 2, 4, 3, 5][rank as usize],
+        (118, _) => [0, 1, 3, 2, 4, 5][rank as usize],
+        (119, _) => [0, 2, 1, 3, 4, 5][rank as usize],
+        // 10 to 12 as B with 13; 5 to 8 as A, B, C, D, or as B, C, D, E.
+        (120, 10..=12) if seen.stands(13) => 4,
+        (121, 6..=8) => rank + 1,
+        (122, 5) => 4,
+        // Not sorted: under STOP A, where no stop is entered, acknowledged, with F on, by the list's number of data.
+        (123, _) if seen.rank_before == 5 => 0,
+        (124, _) if seen.rank_shown <= seen.rank_before => 0,
+        (125, _) if seen.acknowledged => 0,
+        (126, _) if seen.f_before => 0,
+        (127, _) if seen.head == 51 => 0,
+        (128, _) if seen.head == 67 => 0,
+        (129, _) if seen.head == 69 => 0,
+        _ => rank,
+    }
+}
+
+/// The number by which a wrong board sorts causes of equal rank, the least first.
+fn wrong_tie<const N: u32>(seen: &Seen, code: u8) -> i32 {
+    let rank = seen.rank(code);
+    match (N, code) {
+        // Downwards: all, those without a rank, those with one.
+        (81, _) => -i32::from(code),
+        (82, _) if rank == 0 => -i32::from(code),
+        (83, _) if rank > 0 => -i32::from(code),
+        // First among their equals: 13, 9, the external stops, 4, 12, 11.
+        (84, 13) | (85, 9) | (87, 4) | (91, 4) | (104, 13) => 0,
+        (86, 5..=8) => i32::from(code) - 13,
+        (130, 12) | (131, 11) => 0,
+        // Last among their equals: 2, 3 and 4.
+        (88, 2) | (89, 3 | 4) => i32::from(code) + 13,
+        _ => code.into(),
+    }
+}
+
+thread_local! {
+    /// What the cycle before gave, for boards that keep their array.
+    static LAST: Cell<[u8; 13]> = const { Cell::new([0; 13]) };
+}
+
+/// The codes as a wrong board gives them.
+fn in_order<const N: u32>(seen: &Seen) -> [u8; 13] {
+    let mut codes = seen.codes.clone();
+    let key = |code: &u8| (-wrong_rank::<N>(seen, *code), wrong_tie::<N>(seen, *code));
+    match N {
+        // Eight are sorted; or neighbours are put right once.
+        132 => {
+            let eight = codes.len().min(8);
+            codes[..eight].sort_by_key(key);
+        }
+        133 => {
+            for at in 1..codes.len() {
+                if key(&codes[at - 1]) > key(&codes[at]) {
+                    codes.swap(at - 1, at);
+                }
+            }
+        }
+        _ => codes.sort_by_key(key),
+    }
+    // Each code has its own place.
+    if N == 138 {
+        codes = (1..=13)
+            .map(|code| code * u8::from(seen.stands(code)))
+            .collect();
+    }
+    // A 0 between those with a rank and those without.
+    if let (134, Some(at)) = (N, codes.iter().position(|&code| seen.rank(code) == 0)) {
+        codes.insert(at, 0);
+    }
+    let mut array = match N {
+        // The places behind the codes are left as they are; or those behind a 1; or all where there is no code.
+        135 => LAST.get(),
+        136 if codes == [1] => LAST.get(),
+        137 if codes.is_empty() => LAST.get(),
+        _ => [0; 13],
+    };
+    array[..codes.len()].copy_from_slice(&codes);
+    LAST.set(array);
+    array
+}
+
 /// Puts a code behind those that stand.
 fn list_code(cycle: &mut Cycle, code: u8) {
     if let Some(place) = cycle.codes.iter_mut().find(|place| **place == 0) {
@@ -418,7 +617,9 @@ fn untold(scripts: &[Script]) -> Vec<u32> {
     }
     let told = of!(0 1 2 3 4 5 6 7 8 9 10 11 12 13 14 15 16 17 18 19 20 21 22 23 24 25 26 27 28 29
         30 31 32 33 34 35 36 37 38 39 40 41 42 43 44 45 46 47 48 49 50 51 52 53 54 55 56 57 58 59
-        60 61 62 63 64 65 66 67 68 69 70 71 72 73 74 75 76);
+        60 61 62 63 64 65 66 67 68 69 70 71 72 73 74 75 76 77 78 79 80 81 82 83 84 85 86 87 88 89
+        90 91 92 93 94 95 96 97 98 99 100 101 102 103 104 105 106 107 108 109 110 111 112 113 114
+        115 116 117 118 119 120 121 122 123 124 125 126 127 128 129 130 131 132 133 134 135 136 137 138);
     assert_eq!(told[0], (0, 0));
     let untold = told[1..].iter().filter(|(_, scripts)| *scripts == 0);
     untold.map(|(board, _)| *board).collect()

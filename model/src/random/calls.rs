@@ -69,18 +69,13 @@ pub enum Answer {
     Nothing,
     Read(Result<usize, Refusal>),
     Report(Report),
-    Cycle { word: u32, codes: [u8; 13] },
+    /// The channel word, and the codes that stand with 0 behind them.
+    Cycle {
+        word: u32,
+        codes: [u8; 13],
+    },
     DeviceWord(u32),
     Ran(Result<usize, Refusal>, Vec<u32>),
-}
-
-impl Answer {
-    /// A cycle's answer: the order of its codes is open, so they are sorted.
-    pub fn cycle(word: u32, mut codes: [u8; 13]) -> Answer {
-        let end = codes.iter().position(|&code| code == 0);
-        codes[..end.unwrap_or(13)].sort_unstable();
-        Answer::Cycle { word, codes }
-    }
 }
 
 /// The channels of a list of calls, by the model.
@@ -124,10 +119,10 @@ impl Channels {
                 report,
             } => {
                 let cycle = self.0[of].cycle(position, inputs, acknowledged != 0, report);
-                let mut codes = [0; 13];
-                let stand = cycle.causes.codes();
-                codes[..stand.len()].copy_from_slice(stand);
-                Answer::cycle(cycle.word, codes)
+                Answer::Cycle {
+                    word: cycle.word,
+                    codes: cycle.causes.list(),
+                }
             }
             Call::DeviceWord { a, b } => Answer::DeviceWord(device::word(a, b)),
             Call::RunLog {

@@ -269,7 +269,7 @@ impl Reached {
         other_unusable: bool,
     ) {
         self.ranks[after.stop().rank.number() as usize] += 1;
-        for &code in cycle.causes.codes() {
+        for code in cycle.causes.codes() {
             self.causes[usize::from(code).min(13)] += 1;
         }
         for (bit, cam) in (8..).zip(&mut self.cams) {

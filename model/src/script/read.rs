@@ -449,7 +449,6 @@ fn cycle_answer(text: &str) -> Result<Vec<u32>, String> {
             for code in codes {
                 answer.push(integer(code, 1, 13, "a cause code")? as u32);
             }
-            answer[1..].sort_unstable();
         }
         _ => return Err(wrong()),
     }

@@ -90,13 +90,9 @@ impl Board for Model {
             head: report[3] as usize,
         };
         let cycle = channel.cycle(position, inputs, acknowledged != 0, report);
-        let mut codes = [0; 13];
-        for (to, &code) in codes.iter_mut().zip(cycle.causes.codes()) {
-            *to = code;
-        }
         Cycle {
             word: cycle.word,
-            codes,
+            codes: cycle.causes.list(),
         }
     }
 
@@ -333,16 +329,12 @@ fn numbers(answer: Result<usize, Refusal>) -> [u32; 2] {
     }
 }
 
-/// A cycle's word, then its codes in order; 0 for one that stands behind a 0.
+/// A cycle's word, then its codes as they stand, without the zeros behind them.
 fn of_cycle(cycle: &Cycle) -> Vec<u32> {
+    let last = cycle.codes.iter().rposition(|&code| code != 0);
+    let codes = &cycle.codes[..last.map_or(0, |last| last + 1)];
     let mut answer = vec![cycle.word];
-    for code in 1..=u8::MAX {
-        let places = (0..13).filter(|&at| cycle.codes[at] == code);
-        answer.extend(places.map(|at| match at > 0 && cycle.codes[at - 1] == 0 {
-            true => 0,
-            false => code.into(),
-        }));
-    }
+    answer.extend(codes.iter().map(|&code| u32::from(code)));
     answer
 }
 

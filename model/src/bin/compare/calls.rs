@@ -105,8 +105,9 @@ fn answer(channels: &mut [Channel; CHANNELS], call: &Call) -> Answer {
             report,
         } => {
             let report = proved::lent(report);
-            let cycle = channels[of].cycle(position, inputs, acknowledged, &report);
-            Answer::cycle(cycle.word, cycle.codes)
+            let proved::Cycle { word, codes } =
+                channels[of].cycle(position, inputs, acknowledged, &report);
+            Answer::Cycle { word, codes }
         }
         Call::DeviceWord { a, b } => Answer::DeviceWord(proved::device_word(a, b)),
         Call::RunLog {

@@ -6,7 +6,7 @@
 #include <stddef.h>
 #include <stdint.h>
 
-#define MONITOR_INTERFACE 4 /* the number of this interface, which monitor_interface() must answer */
+#define MONITOR_INTERFACE 5 /* the number of this interface, which monitor_interface() must answer */
 
 /* How long the lent arrays are. */
 #define MONITOR_DATA 69   /* machine data of a channel, by their numbers; a shorter list leaves the places behind its data 0 */

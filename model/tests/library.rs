@@ -362,12 +362,12 @@ fn reports_by_other_channels_and_k_out_of_step() {
     // Datum 0 is another: F.
     let from_b = b.report(0, 2);
     assert_eq!(from_b.datum, 11);
-    assert_eq!(a.cycle(0, 2, from_b).1, [12, 13]);
+    assert_eq!(a.cycle(0, 2, from_b).1, [13, 12]);
     // a is one cycle ahead: datum 1 beside datum 0.
     let (from_a, from_b) = (a.report(0, 2), b.report(0, 2));
     assert_eq!((from_a.datum, from_b.datum), (1, 11));
-    assert_eq!(a.cycle(0, 2, from_b).1, [12, 13]);
-    assert_eq!(b.cycle(0, 2, from_a).1, [12, 13]);
+    assert_eq!(a.cycle(0, 2, from_b).1, [13, 12]);
+    assert_eq!(b.cycle(0, 2, from_a).1, [13, 12]);
     // A log with the two out of step, either way about.
     assert_eq!(run_log(&mut a, &mut b, &log_of(&[0, 0, 0]), 9), Ok(3));
     assert_eq!(run_log(&mut b, &mut a, &log_of(&[0; 60]), 200), Ok(60));
@@ -380,7 +380,7 @@ fn reports_by_other_channels_and_k_out_of_step() {
     assert_eq!(c.cycle(0, 1, Report { position, ..own }).1, [10]);
     let own = c.report(0, 1);
     assert_eq!(c.cycle(0, 1, Report { inputs, ..own }).1, [11]);
-    assert_eq!(c.cycle(0, 1, Report { datum, ..own }).1, [12, 13]);
+    assert_eq!(c.cycle(0, 1, Report { datum, ..own }).1, [13, 12]);
     let own = c.report(0, 1);
     assert_eq!(c.cycle(0, 1, own).1, [13]);
     // Nothing is active: F stands without 13.

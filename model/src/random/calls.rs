@@ -458,6 +458,12 @@ named! {
         NxLongestRun: "a run of n<nx that stays at 1,001",
         NxRunBeyond: "a run of n<nx above 1,001",
         NoCause: "no cause",
+        NotUpwards: "codes that do not stand upwards",
+        SgBefore5: "code 3 before 5",
+        SgBeforeSe: "code 3 before 4",
+        SeBeforeSg: "code 4 before 3",
+        Rank4: "two of codes 2, 9 and 13 side by side",
+        ManyCodes: "eight codes or more",
         Held: "held",
         F: "F on",
         RankFalls: "a rank falls",
@@ -709,6 +715,7 @@ impl ReachedCalls {
     fn cycle(&mut self, word: u32, codes: [u8; 13], past: &mut Past) {
         self.cycles += 1;
         self.event(Event::NoCause, codes[0] == 0);
+        self.order(codes);
         for code in codes.into_iter().filter(|&code| code != 0) {
             self.causes[usize::from(code) - 1] += 1;
         }
@@ -720,6 +727,20 @@ impl ReachedCalls {
         past.rank = rank;
         past.cycles += 1;
         past.log = None;
+    }
+
+    /// How a cycle's codes stand.
+    fn order(&mut self, codes: [u8; 13]) {
+        let place = |code: u8| codes.iter().position(|&stands| stands == code);
+        let before = |one: u8, other: u8| matches!((place(one), place(other)), (Some(one), Some(other)) if one < other);
+        let upwards = |two: &[u8]| two[1] == 0 || two[0] < two[1];
+        let of_rank_4 = |two: &[u8]| two.iter().all(|code| [2, 9, 13].contains(code));
+        self.event(Event::NotUpwards, !codes.windows(2).all(upwards));
+        self.event(Event::SgBefore5, before(3, 5));
+        self.event(Event::SgBeforeSe, before(3, 4));
+        self.event(Event::SeBeforeSg, before(4, 3));
+        self.event(Event::Rank4, codes.windows(2).any(of_rank_4));
+        self.event(Event::ManyCodes, codes[7] != 0);
     }
 
     fn log(

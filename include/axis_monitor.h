@@ -157,7 +157,8 @@ uint32_t monitor_read_list(const uint32_t *words, size_t words_len, int32_t data
 void monitor_report(const int32_t data[MONITOR_DATA], const uint32_t state[MONITOR_STATE], int32_t position, uint32_t inputs,
                     uint32_t report[MONITOR_REPORT]);
 
-/* A channel's cycle: its channel word; the codes that stand, with 0 behind them, in an open order. Any acknowledged but 0 is yes. */
+/* A channel's cycle: its channel word; in causes the codes that stand, strongest rank first, those without a rank last, equal ranks by
+   code, with 0 behind them. Any acknowledged but 0 is yes. */
 uint32_t monitor_cycle(const int32_t data[MONITOR_DATA], uint32_t state[MONITOR_STATE], int32_t position, uint32_t inputs,
                        uint32_t acknowledged, const uint32_t report[MONITOR_REPORT], uint8_t causes[MONITOR_CODES]);
 

@@ -1,4 +1,4 @@
-//! Readings of document 01 and of requests W1 to W3: the papers themselves, and single deviations from them.
+//! Readings of document 01 and of requests W1 to W4: the papers themselves, and single deviations from them.
 //!
 //! A function of the model takes a reading. [`Paper`] never deviates and costs nothing;
 //! [`Deviant`] is wrong in one place, so that kits can be tried for whether they notice.
@@ -17,7 +17,7 @@
 //! - the device's look at bit 2, or at ranks above 5: a channel word has bit 2 just where its
 //!   rank is 5, and no rank above;
 //! - a log limit above 16,076 words, and the size of the output: the bench gives no such log;
-//! - the order of cause codes, and the codes themselves: the listing has none;
+//! - the codes of causes, and their order: the listing has none;
 //! - limit × percent × T × denominator divided by the numerator before |d| × 6000 is compared with it, or |d| × numerator
 //!   × 60 divided by the denominator before nx or the shutdown speed is: as above, for a quotient rounded down;
 //! - the own head in a report in place of the other channel's: in a log it is that heads are not compared.

@@ -68,7 +68,7 @@ const STATES: [(&str, &[&str]); 5] = [
             "f.on",
             "f.count > 0",
             "run.0 > 0",
-            "causes.count == 0",
+            "causes.standing == 0",
             "self.on",
             "self.count > 0",
             "self.0 > 0",

@@ -209,7 +209,7 @@ impl<const N: u32> Board for Wrong<N> {
             by_what_is_active::<N>(channel, &old, &mut cycle);
         }
         by_nx::<N>(channel, &old, unusable);
-        if let 77..=138 = N {
+        if let 0 | 77..=138 = N {
             let seen = Seen::of(channel, &old, inputs, acknowledged, &cycle);
             cycle.codes = in_order::<N>(&seen);
         }

@@ -8,7 +8,6 @@ ghost use Rattle.axis_monitor.specs.Crossing.{interfaceNumber};
 ghost use Rattle.image.specs.Written.{writtenAs, writing};
 ghost use Rattle.axis_monitor.specs.Left.{leftByList, listInto, leftByReport, reportedBy, reporting, leftByCycle, cycleOn};
 use advance::Advanced;
-use codes::Causes;
 use codes::Codes;
 use crossing_reports::ReportWords;
 use image::Image;
@@ -70,22 +69,13 @@ pub extern "C" fn monitor_report(
     *report = crossing_reports::report_words(report::report_of(values, count, known.k, reading));
 }
 
-// What a cycle leaves in the caller's memory, and its word.
-fn leave(
-    count: usize,
-    advanced: Advanced,
-    list: Causes,
-    state: &mut Image,
-    causes: &mut Codes,
-) -> u32
+// What a cycle leaves of the channel in the caller's memory, and its word.
+fn leave(count: usize, advanced: Advanced, state: &mut Image) -> u32
     ensures { λ r. ⌜ r ≡ advanced .word ⌝ }
     ensures { λ _. ⌜ writtenAs (now (state .exit)) ≡ writing count (advanced .state) ⌝ }
-    ensures { λ _. ⌜ now (causes .exit) ≡ list .codes ⌝ }
 {
     let after = advanced.state;
-    let codes = list.codes;
     *state = image::words_of(count, after);
-    *causes = codes;
     advanced.word
 }
 
@@ -111,16 +101,12 @@ pub extern "C" fn monitor_cycle(
         let rows = findings.rows;
         let summary = findings.summary;
         let advanced = advance::found(values, count, before, given, findings);
-        leave(
-            count,
-            advanced,
-            Causes::of(rows, summary.any),
-            state,
-            causes,
-        )
+        codes::list_causes(rows, summary.any, causes);
+        leave(count, advanced, state)
     } else {
         let idle = advance::skipped(values, count, before);
-        leave(count, idle, Causes::unusable(), state, causes)
+        codes::list_unusable(causes);
+        leave(count, idle, state)
     }
 }
 

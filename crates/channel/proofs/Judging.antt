@@ -5,7 +5,7 @@ use Rattle.machine_data.specs.declared.MachineData.{MachineData}
 use Rattle.inputs.specs.Usable.{usableOf}
 use Rattle.causes.specs.Causes.{unusableTable, summaryOf}
 use Rattle.codes.specs.Codes.{causesOf, causesIf}
-use Rattle.codes.proofs.Codes.{causes-if}
+use Rattle.codes.proofs.Few.{causes-if}
 use Rattle.state.specs.declared.State.{State}
 use Rattle.state.specs.declared.Given.{Given}
 use Rattle.judge.specs.Causes.{usableRows, rowsOf, findingsOf}

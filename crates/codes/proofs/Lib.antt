@@ -1,6 +1,5 @@
-pub mod Placing
-pub mod Codes
-pub mod Filling
+pub mod Ranks
+pub mod Places
 pub mod Order
 pub mod Only
 pub mod Few

@@ -60,7 +60,7 @@ pub record Lists (rows : List Cause) (cs : Causes) : Type 0 where
   pub count-is : cs .count ≡ length (codesOf cs)
   pub rest : cs .codes ≡ padded (codesOf cs)
 
--- a table whose codes rise, from above n on, and are below 256
+-- a table whose codes rise, from above n on
 abbrev pub Rising : ℕ → List Cause → Type 0
 Rising n [] = Unit {0}
-Rising n (c ∷ cs) = (n < c .code) × (c .code < 256) × Rising (c .code) cs
+Rising n (c ∷ cs) = (n < c .code) × Rising (c .code) cs

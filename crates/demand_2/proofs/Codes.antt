@@ -16,7 +16,7 @@ use Rattle.selection.specs.declared.Selection.the-variants.{Nothing, Sg, Sbh}
 use Rattle.limits.specs.Limits.{standstillLeft, overSpeed}
 use Rattle.causes.specs.declared.Cause.{Cause}
 use Rattle.causes.specs.Causes.{rowCount, unusableTable}
-use Rattle.codes.specs.Codes.{placed, placedIf, inOrder, causesOf}
+use Rattle.codes.specs.Codes.{ofRank, below, inOrder, causesOf}
 use Rattle.codes.specs.Lists.{Rising}
 use Rattle.codes.proofs.Order.{lists}
 use Rattle.codes.proofs.Only.{only}
@@ -43,7 +43,7 @@ module _ (m : MachineData) (s : State) (g : Given) where
   rising = if-case (Rising 0) (usableOf m (g .reading)) (usableRows m s g) unusableTable (λ _. omega arith) (λ _. omega arith)
 
   few-rows : length (inOrder (rowsOf m s g)) < rowCount
-  unfolding rowsOf usableRows placedIf placed
+  unfolding rowsOf usableRows below ofRank
   few-rows =
       if-case (λ (rows : List Cause). length (inOrder rows) < rowCount) (usableOf m (g .reading)) (usableRows m s g) unusableTable
       (λ _. two-exclude (usableRows m s g) (apart (m .values) (choiceIn m s g) (g .reading .position) (stepIn m s g)))

@@ -35,8 +35,8 @@ judge-requires c κs = search needs
 found-requires : tie.Need-found-requires
 found-requires c κs = search needs
 
-of-requires : tie.Need-of-requires
-of-requires c κs = search needs
+list-causes-requires : tie.Need-list-causes-requires
+list-causes-requires c κs = search needs
 
 leave-requires : tie.Need-leave-requires
 leave-requires c κs = search needs
@@ -44,8 +44,8 @@ leave-requires c κs = search needs
 skipped-requires : tie.Need-skipped-requires
 skipped-requires c κs = search needs
 
-unusable-requires : tie.Need-unusable-requires
-unusable-requires c κs = search needs
+list-unusable-requires : tie.Need-list-unusable-requires
+list-unusable-requires c κs = search needs
 
 leave-requires-2 : tie.Need-leave-requires-2
 leave-requires-2 c κs = search needs
@@ -66,8 +66,8 @@ returns c =
     let found : c .before .before .before .before .found .result ≡ advancedBy m s g (c .before .before .before .before .before .before .before .judge .result) = simp (c .before .before .before .before .before .before .before .before .before .before .state-from .ensures, given) at (c .before .before .before .before .found .ensures) in
     cycled values w g (count .ensures .0) (count .ensures .1)
     (found ∙ ap (advancedBy m s g) judged ∙ usable-cycle m s g u)
-    (c .before .before .before .of .ensures ∙ ap (λ (f : Findings). causesIf (f .summary .any) (f .rows)) judged ∙ usable-causes m s g u)
-    (c .leave .ensures .0) (c .leave .ensures .1 .0) (c .leave .ensures .1 .1)
+    (c .before .before .list-causes .ensures ∙ ap (λ (f : Findings). causesIf (f .summary .any) (f .rows)) judged ∙ usable-causes m s g u)
+    (c .leave .ensures .0) (c .leave .ensures .1)
 
 returns-2 : tie.Need-returns-2
 returns-2 c =
@@ -84,8 +84,8 @@ returns-2 c =
     let skipped : c .before .before .before .before .skipped .result ≡ advancedUnusable m s = simp (c .before .before .before .before .before .before .before .state-from .ensures) at (c .before .before .before .before .skipped .ensures) in
     cycled values w g (count .ensures .0) (count .ensures .1)
     (skipped ∙ unusable-cycle m s g u)
-    (c .before .before .before .unusable .ensures ∙ unusable-causes m s g u)
-    (c .leave2 .ensures .0) (c .leave2 .ensures .1 .0) (c .leave2 .ensures .1 .1)
+    (c .before .before .list-unusable .ensures ∙ unusable-causes m s g u)
+    (c .leave2 .ensures .0) (c .leave2 .ensures .1)
 
 pub monitor-cycle-spec : {M : Type 1} → statement M
 monitor-cycle-spec =
@@ -97,10 +97,10 @@ monitor-cycle-spec =
     usable-requires
     judge-requires
     found-requires
-    of-requires
+    list-causes-requires
     leave-requires
     skipped-requires
-    unusable-requires
+    list-unusable-requires
     leave-requires-2
     returns
     returns-2)

@@ -28,7 +28,7 @@ pub record ListLeft : Type 0 where
 abbrev pub leftByList : ℕ → List ℤ → List ℕ → ℕ → ListLeft
 leftByList number values′ state′ at′ = record { number = number; place = at′; values = values′; state = state′; channel = channelFrom values′ state′ }
 
--- "The working channel starts fresh, with an accepted list"; "A refused list .. alters nothing"
+-- "The working channel starts fresh, with an accepted list"; a refused list leaves "everything" "as it was"
 abbrev pub listInto : List ℕ → List ℤ → List ℕ → ListLeft
 listInto words values state =
     let read = readList words in

@@ -1,7 +1,7 @@
 -- How many codes a list has: no code twice, none where no row stands, not more than the table has rows, and one fewer where two of them exclude each other.
 -- Assumes nothing.
 use Prim.Native.Nat.{ℕ, _+_, _≤_, _<_}
-use mathlib.Core.Path.{_≡_, refl, sym, ap}
+use mathlib.Core.Path.{_≡_, refl, ap}
 use mathlib.Core.Bool.{Bool, true, false, _&&_, true≢false}
 use mathlib.Core.List.{List, [], _∷_}
 use lib.Dec.{eqb}
@@ -12,7 +12,7 @@ use Rattle.bits.specs.Bits.{flag}
 use Rattle.causes.specs.declared.Cause.{Cause}
 use Rattle.causes.specs.Causes.{overRows, standsOr, anyStands}
 use Rattle.codes.specs.declared.Causes.{Causes}
-use Rattle.codes.specs.Codes.{ofRank, below, inOrder, padded, causesAs, causesOf, noCauses, causesIf}
+use Rattle.codes.specs.Codes.{ofRank, below, inOrder, padded, causesAs, causesOf, causesIf}
 use Rattle.codes.specs.Lists.{wanted, Rising}
 use Rattle.codes.proofs.Ranks.{many-more, flag-most, rows-most}
 

@@ -56,7 +56,7 @@ pub record Lists (rows : List Cause) (cs : Causes) : Type 0 where
   -- each code that stands, once, and no other
   pub each : (k : ℕ) → occurrences k (codesOf cs) ≡ wanted k rows
   pub sorted : Sorted (Before rows) (codesOf cs)
-  -- as many as the count says, in at most 13 places, with 0 behind them
+  -- as many as the count says, in 13 places, with 0 behind them
   pub count-is : cs .count ≡ length (codesOf cs)
   pub rest : cs .codes ≡ padded (codesOf cs)
 

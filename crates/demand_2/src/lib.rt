@@ -1,1 +1,2 @@
-// What a cycle makes of the rank: the statement in specs/ and its proof in proofs/, about the definitions that the contracts cite.
+// What a cycle makes of the rank, and its list of cause codes: the statements in specs/ and their proofs in proofs/, about the
+// definitions that the contracts cite.

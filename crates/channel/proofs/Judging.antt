@@ -1,5 +1,5 @@
 -- What the code does with what it found is the cycle of the definitions, in a usable cycle and in an unusable one. Assumes nothing.
-use mathlib.Core.Path.{_≡_, _∙_}
+use mathlib.Core.Path.{_≡_}
 use mathlib.Core.Bool.{true, false}
 use Rattle.machine_data.specs.declared.MachineData.{MachineData}
 use Rattle.inputs.specs.Usable.{usableOf}

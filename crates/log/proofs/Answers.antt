@@ -19,7 +19,7 @@ use Rattle.state.specs.declared.State.{State}
 use Rattle.channel.specs.Cycle.{withState}
 use Rattle.log.specs.declared.LogStates.{LogStates}
 use Rattle.log.specs.declared.LogAnswer.the-variants.{Accepted}
-use Rattle.log.specs.Run.{Both, Ran, bothOf, refusing, running, byRecords, ranOf}
+use Rattle.log.specs.Run.{Both, bothOf, refusing, running, byRecords, ranOf}
 use Rattle.log.specs.Alone.{wordsAlone, thirds, withDevices}
 use Rattle.log.specs.Left.{leftBeside, refusedStates, Sound, RunsAlone}
 use Rattle.log.proofs.Thirds.{together}

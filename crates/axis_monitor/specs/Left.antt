@@ -3,16 +3,25 @@
 use Prim.Native.Nat.{ℕ}
 use mathlib.Core.List.{List}
 use lib.IntN.{ℤ}
+use Rattle.machine_data.specs.declared.MachineData.{MachineData}
+use Rattle.causes.specs.Causes.{unusableTable}
+use Rattle.codes.specs.declared.Causes.{Causes}
+use Rattle.codes.specs.Codes.{causesOf, causesIf}
 use Rattle.report.specs.declared.Report.{Report}
 use Rattle.report.specs.Report.{reportOf}
 use Rattle.list.specs.Reading.{readList}
 use Rattle.state.specs.State.{freshState}
 use Rattle.state.specs.declared.Given.{Given}
+use Rattle.state.specs.declared.State.{State}
+use Rattle.judge.specs.Causes.{findingsOf}
+use Rattle.advance.specs.declared.Advanced.{Advanced}
+use Rattle.advance.specs.After.{advancedBy, advancedUnusable}
 use Rattle.channel.specs.declared.Channel.{Channel}
 use Rattle.channel.specs.Cycle.{freshChannel, withState, next}
 use Rattle.channel.specs.Word.{word}
 use Rattle.channel.specs.Outcome.{causesIn}
 use Rattle.image.specs.Image.{countFrom, listFrom, stateFrom, stateWords, channelFrom}
+use Rattle.image.specs.Written.{Written, writtenAs, writing}
 use Rattle.crossing_reports.specs.Reports.{reportWords, reportFrom}
 use Rattle.axis_monitor.specs.Crossing.{listNumber, listPlace, listLeft}
 
@@ -55,6 +64,26 @@ reportedBy values state position inputs = reportOf (listFrom values state) (stat
 
 abbrev pub reporting : Report → ReportLeft
 reporting r = record { words = reportWords r; report = r }
+
+-- ---- a cycle's two ways: the word, the state as it is written, the codes
+
+pub record WayLeft : Type 0 where
+  pub word : ℕ
+  pub written : Written
+  pub codes : List ℕ
+
+abbrev pub leftByWay : ℕ → List ℕ → List ℕ → WayLeft
+leftByWay w state′ codes′ = record { word = w; written = writtenAs state′; codes = codes′ }
+
+-- what a cycle that gives these leaves of a channel with so many data
+abbrev pub leaving : ℕ → Advanced → Causes → WayLeft
+leaving count a causes = record { word = a .word; written = writing count (a .state); codes = causes .codes }
+
+unfoldable pub usableLeaves : MachineData → State → Given → WayLeft
+usableLeaves m s g = let f = findingsOf m s g in leaving (m .count) (advancedBy m s g f) (causesIf (f .summary .any) (f .rows))
+
+unfoldable pub unusableLeaves : MachineData → State → WayLeft
+unusableLeaves m s = leaving (m .count) (advancedUnusable m s) (causesOf unusableTable)
 
 -- ---- a cycle of the channel that the arrays stand for
 

@@ -6,7 +6,8 @@ ghost use Rattle.device.specs.Device.{deviceOf};
 ghost use Rattle.crossing_reports.specs.Reports.{givenFrom};
 ghost use Rattle.axis_monitor.specs.Crossing.{interfaceNumber};
 ghost use Rattle.image.specs.Written.{writtenAs, writing};
-ghost use Rattle.axis_monitor.specs.Left.{leftByList, listInto, leftByReport, reportedBy, reporting, leftByCycle, cycleOn};
+ghost use Rattle.axis_monitor.specs.Left.{leftByList, listInto, leftByReport, reportedBy, reporting, leftByWay, usableLeaves, unusableLeaves, leftByCycle, cycleOn};
+ghost use Rattle.machine_data.specs.Data.{lent};
 use advance::Advanced;
 use codes::Codes;
 use crossing_reports::ReportWords;
@@ -14,6 +15,7 @@ use image::Image;
 use inputs::Reading;
 use list::ListAnswer;
 use machine_data::Values;
+use state::Given;
 use state::State;
 
 // The number of this interface: it rises where a function, an array or the meaning of a word changes.
@@ -79,8 +81,45 @@ fn leave(count: usize, advanced: Advanced, state: &mut Image) -> u32
     advanced.word
 }
 
-// A cycle: the channel word, with the state after it and the codes that stand. Each of the two ways writes what it leaves by
-// itself: written behind them, the parts that only one of them changes would have to be chosen one by one.
+// The ways of a cycle are functions of their own: each then writes what it leaves by itself, since the parts that only one of
+// them changes would else be chosen one by one behind them, and the cams come last in theirs, beside the word that shows them,
+// where the compiler takes all eight at once.
+
+// A usable cycle.
+fn usable_cycle(
+    values: &Values,
+    count: usize,
+    before: State,
+    given: Given,
+    state: &mut Image,
+    causes: &mut Codes,
+) -> u32
+    ensures { λ r. ⌜ leftByWay r (now (state .exit)) (now (causes .exit)) ≡ usableLeaves (lent (now (values .entry)) count) before given ⌝ }
+{
+    let findings = judge::judge(values, count, before, given);
+    let rows = findings.rows;
+    let summary = findings.summary;
+    let advanced = advance::found(values, count, before, given, findings);
+    codes::list_causes(rows, summary.any, causes);
+    leave(count, advanced, state)
+}
+
+// One with unusable inputs.
+fn unusable_cycle(
+    values: &Values,
+    count: usize,
+    before: State,
+    state: &mut Image,
+    causes: &mut Codes,
+) -> u32
+    ensures { λ r. ⌜ leftByWay r (now (state .exit)) (now (causes .exit)) ≡ unusableLeaves (lent (now (values .entry)) count) before ⌝ }
+{
+    let idle = advance::skipped(values, count, before);
+    codes::list_unusable(causes);
+    leave(count, idle, state)
+}
+
+// A cycle: the channel word, with the state after it and the codes that stand.
 #[no_mangle]
 pub extern "C" fn monitor_cycle(
     values: &Values,
@@ -97,16 +136,9 @@ pub extern "C" fn monitor_cycle(
     let count = image::count_of(state);
     let before = image::state_from(state);
     if inputs::usable(values, count, given.reading) {
-        let findings = judge::judge(values, count, before, given);
-        let rows = findings.rows;
-        let summary = findings.summary;
-        let advanced = advance::found(values, count, before, given, findings);
-        codes::list_causes(rows, summary.any, causes);
-        leave(count, advanced, state)
+        usable_cycle(values, count, before, given, state, causes)
     } else {
-        let idle = advance::skipped(values, count, before);
-        codes::list_unusable(causes);
-        leave(count, idle, state)
+        unusable_cycle(values, count, before, state, causes)
     }
 }
 

@@ -1,2 +1,3 @@
+pub mod Arithmetic
+pub mod Lowest
 pub mod Signals
-pub mod Tests

@@ -4,20 +4,19 @@ use Prim.Native.Nat.{ℕ, zero, suc, _+_, _*_, _-_, _%_, _^_, _≤_, _<_}
 use mathlib.Core.Bool.{Bool, true, false}
 use mathlib.Core.List.{List}
 use mathlib.Core.Path.{_≡_, refl, _∙_, ap}
-use native.Mathlib.Nat.{two-pow-succ, pow-succ'}
+use native.Mathlib.Nat.{two-pow-succ, pow-succ', mod-eq-of-lt}
 use native.Mathlib.Numerals.{add-one}
 use native.Mathlib.Omega.{arith}
 use borrow.Author.Tests.{ltb-true, ltb-false}
-use lib.Dec.{ltb}
-use lib.IntN.{ℤ}
-use lib.Pow.{pow-add, pow-mono}
+use lib.Dec.{ltb, lit<}
+use lib.IntN.{ℤ, pos}
+use lib.Pow.{pow-add}
 use Rattle.bits.specs.Bits.{bitOf, flag}
 use Rattle.bits.proofs.Fields.{bit}
-use Rattle.cams.specs.Cams.{camOf, camsUpTo, camsNext}
-
-times-flag : (t : Bool) (m : ℕ) → m * flag t ≤ m
-times-flag true m = omega arith
-times-flag false m = omega arith
+use Rattle.cams.proofs.Arithmetic.{times-flag, place-small}
+use Rattle.machine_data.proofs.Stands.{as-number}
+use Rattle.machine_data.specs.Data.{datumOf, entryOf, numberOf}
+use Rattle.cams.specs.Cams.{signalOf, camOf, camsUpTo, camsNext}
 
 -- a higher power by a lower one
 pow-above : (n m : ℕ) → n < m → 2 ^ m ≡ 2 ^ n * (2 * 2 ^ (m - suc n))
@@ -60,20 +59,17 @@ module _ (d : List ℤ) (position : ℤ) (before : ℕ) where
   pub cams-bit : (n : ℕ) → n < 8 → bitOf (camsNext d position before) n ≡ camOf d position n (bitOf before n)
   cams-bit n h = let a = above n 8 h in bit n (camsUpTo d position before n) (a .0) (camsNext d position before) (up-to-small n) (signal n) (a .1)
 
-  -- one turn of the loop, which shifts a one to its place
+  -- one turn of the loop, which adds the signal at its place
   module _ (n : ℕ) (h : n < 8) where
     pub up-to-low : (camsUpTo d position before n < 256) × (2 ^ n ≤ 128)
-    up-to-low =
-        let l : 2 ^ n ≤ 128 = pow-mono {i = n} {j = 7} (omega arith) in
-        (omega (arith, up-to-small n), l)
+    up-to-low = let l = place-small n h in (omega (arith, up-to-small n), l)
 
-    shifted : 1 * 2 ^ n % 4294967296 ≡ 2 ^ n
-    shifted = let l = up-to-low .1 in omega arith
+    pub turn : {edge at : ℤ} {tolerance added : ℕ} → edge ≡ entryOf d (16 + n % 8) → tolerance ≡ numberOf d 24 → at ≡ position →
+        added ≡ 2 ^ (n % 8) * flag (signalOf edge (pos tolerance) at (bitOf before (n % 8))) → added ≡ 2 ^ n * flag (signal n)
+    unfolding camOf
+    turn e t a q = q ∙ rw (e, t, a, as-number d 24 0 (lit< tt) refl, mod-eq-of-lt h)
 
-    pub turn-on : signal n ≡ true → camsUpTo d position before n + 1 * 2 ^ n % 4294967296 ≡ camsUpTo d position before (n + 1)
+    pub one-more : {signals added : ℕ} → signals ≡ camsUpTo d position before n → added ≡ 2 ^ n * flag (signal n) →
+        signals + added ≡ camsUpTo d position before (n + 1)
     unfolding camsUpTo
-    turn-on t = rw (shifted, add-one, t) (omega arith)
-
-    pub turn-off : signal n ≡ false → camsUpTo d position before n ≡ camsUpTo d position before (n + 1)
-    unfolding camsUpTo
-    turn-off t = rw (add-one, t) (omega arith)
+    one-more l q = rw (l, q, add-one)

@@ -65,10 +65,23 @@ module _ (d : List ℤ) (k n : ℕ) (h : k < dataCount) where
       go (pos m) t = leb→le m n t
       go (negsuc m) t = omega arith
 
+  at-least : lowOf k ≡ pos n → T (leZ (pos n) (datumOf d k))
+  unfolding inRange
+  at-least e = subst (λ (z : ℤ). T (leZ z (datumOf d k))) e (and-r (ltb k dataCount) (leZ (lowOf k) (datumOf d k)) (and-l (ltb k dataCount && leZ (lowOf k) (datumOf d k)) (leZ (datumOf d k) (highOf k)) (in-range d k h)))
+
   pub number-low : lowOf k ≡ pos n → n ≤ numberOf d k
-  unfolding numberOf inRange
-  number-low e = go (datumOf d k) (subst (λ (z : ℤ). T (leZ z (datumOf d k))) e (and-r (ltb k dataCount) (leZ (lowOf k) (datumOf d k)) (and-l (ltb k dataCount && leZ (lowOf k) (datumOf d k)) (leZ (datumOf d k) (highOf k)) (in-range d k h))))
+  unfolding numberOf
+  number-low e = go (datumOf d k) (at-least e)
     where
       go : (z : ℤ) → T (leZ (pos n) z) → n ≤ size z
       go (pos m) t = leb→le n m t
+      go (negsuc m) t = absurd t
+
+  -- a datum that is never below 0 is its number
+  pub as-number : lowOf k ≡ pos n → datumOf d k ≡ pos (numberOf d k)
+  unfolding numberOf
+  as-number e = go (datumOf d k) (at-least e)
+    where
+      go : (z : ℤ) → T (leZ (pos n) z) → z ≡ pos (size z)
+      go (pos m) t = refl
       go (negsuc m) t = absurd t

@@ -106,6 +106,13 @@ pub fn gear_ratio(values: &Values, g: u8) -> Ratio
     }
 }
 
+// The edge of cam n, in data order, as it stands: it is only compared with, which saves a cycle the look at eight ranges.
+pub fn cam_edge(values: &Values, n: usize) -> i32
+    ensures { λ r. ⌜ r ≡ entryOf (now (values .entry)) (16 + n % 8) ⌝ }
+{
+    values[numbers::CAM + n % 8]
+}
+
 // Datum k as it stands, for a report and its comparison.
 pub fn entry(values: &Values, k: usize) -> i32
     ensures { λ r. ⌜ r ≡ entryOf (now (values .entry)) k ⌝ }

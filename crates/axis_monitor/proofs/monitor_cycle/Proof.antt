@@ -1,19 +1,17 @@
 -- `axis_monitor::monitor_cycle` meets its contract: each way is a cycle's, and leaves what that cycle leaves. Assumes nothing.
-use mathlib.Core.Path.{_≡_, sym, ap, _∙_}
-use mathlib.Core.Bool.{true, false}
+use mathlib.Core.Path.{_≡_, sym, _∙_}
+use mathlib.Core.Bool.{Bool, true, false}
 use mir.Facts.{toZ-ofZ}
 use denote.Ref.{now}
+use borrow.Author.Needs.{needs}
+use Rattle.machine_data.specs.declared.MachineData.{MachineData}
 use Rattle.machine_data.specs.Data.{lent}
 use Rattle.inputs.specs.Usable.{usableOf}
-use Rattle.codes.specs.Codes.{causesIf}
-use Rattle.judge.specs.declared.Findings.{Findings}
-use Rattle.judge.specs.Causes.{findingsOf}
-use Rattle.advance.specs.After.{advancedBy, advancedUnusable}
-use Rattle.channel.proofs.Judging.{usable-cycle, usable-causes, unusable-cycle, unusable-causes}
+use Rattle.state.specs.declared.Given.{Given}
 use Rattle.image.specs.Image.{stateFrom}
 use Rattle.crossing_reports.specs.Reports.{givenFrom}
-use Rattle.axis_monitor.proofs.Channels.{cycled}
-use borrow.Author.Needs.{needs}
+use Rattle.axis_monitor.specs.Left.{WayLeft, leftByWay, usableLeaves, unusableLeaves}
+use Rattle.axis_monitor.proofs.Channels.{usable-way, unusable-way, cycled}
 use Rattle.axis_monitor.proofs.monitor_cycle.Statement.{statement}
 use Rattle.axis_monitor.proofs.monitor_cycle.Tie as tie
 
@@ -29,63 +27,52 @@ state-from-requires c κs = search needs
 usable-requires : tie.Need-usable-requires
 usable-requires c κs = search needs
 
-judge-requires : tie.Need-judge-requires
-judge-requires c κs = search needs
+usable-cycle-requires : tie.Need-usable-cycle-requires
+usable-cycle-requires c κs = search needs
 
-found-requires : tie.Need-found-requires
-found-requires c κs = search needs
+unusable-cycle-requires : tie.Need-unusable-cycle-requires
+unusable-cycle-requires c κs = search needs
 
-list-causes-requires : tie.Need-list-causes-requires
-list-causes-requires c κs = search needs
+-- what the cycle is given
+module _ (c : tie.After-given-from) where
+  abbrev given : Given
+  given = let a = c .before .args in givenFrom (a .position) (a .inputs) (a .acknowledged) (now (a .report))
 
-leave-requires : tie.Need-leave-requires
-leave-requires c κs = search needs
+  given-is : c .given-from .result ≡ given
+  given-is = c .given-from .ensures ∙ simp (toZ-ofZ (c .before .fits .position))
 
-skipped-requires : tie.Need-skipped-requires
-skipped-requires c κs = search needs
+-- the list and the inputs, and whether the one can use the other
+module _ (c : tie.After-usable) where
+  abbrev told : tie.After-given-from
+  told = c .before .before .before .before .before
 
-list-unusable-requires : tie.Need-list-unusable-requires
-list-unusable-requires c κs = search needs
+  abbrev list : MachineData
+  list = lent (now (told .before .args .values)) (c .before .before .before .count-of .result)
 
-leave-requires-2 : tie.Need-leave-requires-2
-leave-requires-2 c κs = search needs
+  by-test : {t : Bool} → c .usable .result ≡ t → usableOf list (given told .reading) ≡ t
+  by-test q = simp (given-is told) at (sym (c .usable .ensures) ∙ q)
 
 returns : tie.Need-returns
 returns c =
-    let start = c .before .before .before .before .before .before .before .before .before .before .before .before .before .before .before in
-    let a = start .args in
-    let values = now (a .values) in
-    let w = now (a .state) in
-    let count = c .before .before .before .before .before .before .before .before .before .before .before .before .count-of in
-    let m = lent values (count .result) in
-    let s = stateFrom w in
-    let g = givenFrom (a .position) (a .inputs) (a .acknowledged) (now (a .report)) in
-    let given : c .before .before .before .before .before .before .before .before .before .before .before .before .before .before .given-from .result ≡ g = c .before .before .before .before .before .before .before .before .before .before .before .before .before .before .given-from .ensures ∙ simp (toZ-ofZ (start .fits .position)) in
-    let u : usableOf m (g .reading) ≡ true = simp given at (sym (c .before .before .before .before .before .before .before .before .before .usable .ensures) ∙ c .before .before .before .before .before .before .before .before .if1 .taken) in
-    let judged : c .before .before .before .before .before .before .before .judge .result ≡ findingsOf m s g = simp (c .before .before .before .before .before .before .before .before .before .before .state-from .ensures, given) at (c .before .before .before .before .before .before .before .judge .ensures) in
-    let found : c .before .before .before .before .found .result ≡ advancedBy m s g (c .before .before .before .before .before .before .before .judge .result) = simp (c .before .before .before .before .before .before .before .before .before .before .state-from .ensures, given) at (c .before .before .before .before .found .ensures) in
-    cycled values w g (count .ensures .0) (count .ensures .1)
-    (found ∙ ap (advancedBy m s g) judged ∙ usable-cycle m s g u)
-    (c .before .before .list-causes .ensures ∙ ap (λ (f : Findings). causesIf (f .summary .any) (f .rows)) judged ∙ usable-causes m s g u)
-    (c .leave .ensures .0) (c .leave .ensures .1)
+    let at = c .before .before .before .before in
+    let start = (told at) .before .args in
+    let count = at .before .before .before .count-of in
+    let s = stateFrom (now (start .state)) in
+    let g = given (told at) in
+    let left = simp (at .before .state-from .ensures, given-is (told at)) at (c .usable-cycle .ensures) in
+    cycled (now (start .values)) (now (start .state)) g (count .ensures .0) (count .ensures .1)
+    (left ∙ usable-way (list at) s g (by-test at (c .before .before .before .if1 .taken)))
 
 returns-2 : tie.Need-returns-2
 returns-2 c =
-    let start = c .before .before .before .before .before .before .before .before .before .before .before .before in
-    let a = start .args in
-    let values = now (a .values) in
-    let w = now (a .state) in
-    let count = c .before .before .before .before .before .before .before .before .before .count-of in
-    let m = lent values (count .result) in
-    let s = stateFrom w in
-    let g = givenFrom (a .position) (a .inputs) (a .acknowledged) (now (a .report)) in
-    let given : c .before .before .before .before .before .before .before .before .before .before .before .given-from .result ≡ g = c .before .before .before .before .before .before .before .before .before .before .before .given-from .ensures ∙ simp (toZ-ofZ (start .fits .position)) in
-    let u : usableOf m (g .reading) ≡ false = simp given at (sym (c .before .before .before .before .before .before .usable .ensures) ∙ c .before .before .before .before .before .if1 .left) in
-    let skipped : c .before .before .before .before .skipped .result ≡ advancedUnusable m s = simp (c .before .before .before .before .before .before .before .state-from .ensures) at (c .before .before .before .before .skipped .ensures) in
-    cycled values w g (count .ensures .0) (count .ensures .1)
-    (skipped ∙ unusable-cycle m s g u)
-    (c .before .before .list-unusable .ensures ∙ unusable-causes m s g u)
-    (c .leave2 .ensures .0) (c .leave2 .ensures .1)
+    let at = c .before .before .before .before in
+    let start = (told at) .before .args in
+    let count = at .before .before .before .count-of in
+    let s = stateFrom (now (start .state)) in
+    let g = given (told at) in
+    let left = simp (at .before .state-from .ensures) at (c .unusable-cycle .ensures) in
+    cycled (now (start .values)) (now (start .state)) g (count .ensures .0) (count .ensures .1)
+    (left ∙ unusable-way (list at) s g (by-test at (c .before .before .before .if1 .left)))
 
 pub monitor-cycle-spec : {M : Type 1} → statement M
 monitor-cycle-spec =
@@ -95,12 +82,7 @@ monitor-cycle-spec =
     count-of-requires
     state-from-requires
     usable-requires
-    judge-requires
-    found-requires
-    list-causes-requires
-    leave-requires
-    skipped-requires
-    list-unusable-requires
-    leave-requires-2
+    usable-cycle-requires
+    unusable-cycle-requires
     returns
     returns-2)

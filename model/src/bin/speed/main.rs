@@ -1,9 +1,14 @@
 //! `speed`: what a cycle costs the proved monitor and the model, on the same kits.
 
+mod libraries;
+mod logs;
+mod turns;
+
+use logs::{assemble, log, Kit, Pattern, GEARS, LISTS, LOGS, QUIET, STOPS};
 use model::channel::image::{self, Lent};
 use model::log::{self, Record, Side};
 use model::proved::Channel;
-use model::{kit, listing, proved, random, words, Report};
+use model::{listing, proved, words, Report};
 use std::fmt;
 use std::hint::black_box;
 use std::io::Write;
@@ -63,6 +68,7 @@ fn tables(rounds: usize) -> Result<String, String> {
     for (name, codes, pattern) in CAUSES {
         text += &Again::new(pattern)?.row(name, codes, rounds)?;
     }
+    text += &turns::table(rounds)?;
     Ok(text)
 }
 
@@ -562,168 +568,3 @@ const CAUSES: [Caused; 4] = [
         ),
     ),
 ];
-
-/// A kit's bytes, or why there are none.
-type Kit = Result<Vec<u8>, String>;
-
-/// A log's name, and its kit with so many cycles.
-type Log = (&'static str, fn(usize) -> Kit);
-
-const LOGS: [Log; 7] = [
-    ("quiet SG", |cycles| log(QUIET, cycles)),
-    ("gears", |cycles| log(GEARS, cycles)),
-    ("n<nx", |cycles| log(NX, cycles)),
-    ("stops, F and acknowledgements", |cycles| log(STOPS, cycles)),
-    ("unusable", |cycles| log(UNUSABLE, cycles)),
-    ("cams", |cycles| log(CAMS, cycles)),
-    ("by chance", |cycles| Ok(random::kit_of(CHANCE, cycles))),
-];
-
-/// A seed whose kit has every function on, and whose log comes to every rank.
-const CHANCE: u64 = 21_242;
-
-const LISTS: [(&str, &str); 4] = [
-    ("whole numbers", "lists A and B"),
-    ("whole numbers, 67 data", "lists A and B of 67 data"),
-    ("whole numbers, 69 data", "lists A and B of 69 data"),
-    (
-        "binary64",
-        "lists A and B
-          0..10 = binary64 1
-          11 = binary64 -100000000
-          12 = binary64 100000000
-          13 = binary64 -100000000
-          14 = binary64 100000000
-          15..50 = binary64 1",
-    ),
-];
-
-/// A kit's lists, and records to repeat.
-type Pattern = (&'static str, &'static [&'static str]);
-
-const QUIET: Pattern = (
-    "lists A and B
-      0 = 12
-      1 = 1
-      2 = 10
-      3 = 2000
-      7 = 3",
-    &["both 0 SG1", "both 200 SG1", "both 400 SG1", "both 200 SG1"],
-);
-
-/// n<nx with hysteresis and filter: set, kept on either side of nx, and put to 0.
-const NX: Pattern = (
-    "lists A and B of 69 data
-      0 = 12
-      1 = 8
-      25 = 600
-      67 = 300
-      68 = 2",
-    &[
-        "both 0 off",
-        "both 119 off",
-        "both 0 off",
-        "both 119 off",
-        "both 269 off",
-        "both 149 off",
-        "both -31 off",
-        "both 119 off",
-    ],
-);
-
-/// SG and n<nx by ratios that do not divide, another one in each cycle.
-const GEARS: Pattern = (
-    "lists A and B of 67 data
-      0 = 12
-      1 = 9
-      2 = 10
-      3 = 2000
-      7 = 3
-      25 = 600
-      52 = 3
-      53 = 7
-      54 = 999
-      59 = 2
-      60 = 7
-      61 = 3
-      62 = 1000",
-    &[
-        "both 0 SG1 gear 0",
-        "both 700 SG1 gear 1",
-        "both 570 SG1 gear 2",
-        "both 370 SG1 gear 3",
-        "both 300 SG1 gear 1",
-        "both 350 SG1 gear 2",
-    ],
-);
-
-const STOPS: Pattern = (
-    "lists A and B
-      0 = 12
-      1 = 31
-      2 = 10
-      3 = 2000
-      7 = 3
-      26 = 5
-      28 = 1
-      29..31 = 2
-      32 = 1
-      34 = 2",
-    &[
-        "both 0 SG1 no-stop",
-        // Over SG1: C, held, left: B, then A.
-        "both 401 SG1 no-stop",
-        "both 401 SG1 no-stop",
-        "both 401 SG1 no-stop",
-        "both 412 SG1 no-stop",
-        "both 412 SG1 no-stop",
-        "both 412 SG1 no-stop ack",
-        // Positions part: F, then B.
-        "A 412 SG1 no-stop, B 418 SG1 no-stop",
-        "both 412 SG1 no-stop",
-        "both 412 SG1 no-stop",
-        "both 412 SG1 no-stop",
-        "both 412 SG1 no-stop ack",
-        // Inputs differ for longer than allowed: F.
-        "A 412 SG1 no-stop, B 412 SG1 SE2 no-stop",
-        "A 412 SG1 no-stop, B 412 SG1 SE2 no-stop",
-        "both 412 SG1 no-stop ack",
-        // External stops: E, then D over it.
-        "both 412 SG1 stop-E",
-        "both 412 SG1 stop-D",
-        "both 412 SG1 no-stop ack",
-        // SBH, and back to SG1.
-        "both 212 SBH no-stop",
-        "both 12 SG1 no-stop ack",
-    ],
-);
-
-const UNUSABLE: Pattern = ("lists A and B", &["both 0 SG1 bit 5"]);
-
-const CAMS: Pattern = (
-    "lists A and B
-      0 = 12
-      1 = 5
-      3 = 1000000
-      16..19 = 100
-      20..23 = 250
-      24 = 10",
-    &[
-        "both 0 SG1",
-        "both 105 SG1",
-        "both 200 SG1",
-        "both 300 SG1",
-        "both 245 SG1",
-        "both 105 SG1",
-    ],
-);
-
-/// The kit of a pattern with so many records.
-fn log((lists, records): Pattern, cycles: usize) -> Kit {
-    let records: Vec<&str> = records.iter().copied().cycle().take(cycles).collect();
-    assemble(&format!("{lists}\nlog\n{}", records.join("\n")))
-}
-
-fn assemble(text: &str) -> Kit {
-    kit::assemble(text).map_err(|fault| fault.to_string())
-}

@@ -1,6 +1,7 @@
 //! A reference bench model of the two-channel axis monitor of document 01, with requests W1,
 //! "Spindles with gear stages", W2, "A spindle that only shows n<nx", W3, "The steady door
-//! lamp", and W4, "Cause codes in one order", of document 02.
+//! lamp", and W4, "Cause codes in one order", of document 02. W5, "Cam bits by arithmetic",
+//! is of how the proved monitor reckons, and changes no word.
 //!
 //! The modules stand in document 01's order and use its words. Each function quotes the
 //! sentence that it stands for; behind `W1:` to `W4:` stands one of the request.

@@ -15,7 +15,7 @@ use Rattle.bits.specs.Bits.{bitOf, flag}
 use Rattle.bits.proofs.Fields.{bit}
 use Rattle.cams.proofs.Arithmetic.{times-flag, place-small}
 use Rattle.machine_data.proofs.Stands.{as-number}
-use Rattle.machine_data.specs.Data.{datumOf, entryOf, numberOf}
+use Rattle.machine_data.specs.Data.{entryOf, numberOf}
 use Rattle.cams.specs.Cams.{signalOf, camOf, camsUpTo, camsNext}
 
 -- a higher power by a lower one

@@ -1,6 +1,6 @@
 -- `axis_monitor::monitor_cycle` meets its contract: each way is a cycle's, and leaves what that cycle leaves. Assumes nothing.
 use mathlib.Core.Path.{_≡_, sym, _∙_}
-use mathlib.Core.Bool.{Bool, true, false}
+use mathlib.Core.Bool.{Bool}
 use mir.Facts.{toZ-ofZ}
 use denote.Ref.{now}
 use borrow.Author.Needs.{needs}
@@ -10,7 +10,6 @@ use Rattle.inputs.specs.Usable.{usableOf}
 use Rattle.state.specs.declared.Given.{Given}
 use Rattle.image.specs.Image.{stateFrom}
 use Rattle.crossing_reports.specs.Reports.{givenFrom}
-use Rattle.axis_monitor.specs.Left.{WayLeft, leftByWay, usableLeaves, unusableLeaves}
 use Rattle.axis_monitor.proofs.Channels.{usable-way, unusable-way, cycled}
 use Rattle.axis_monitor.proofs.monitor_cycle.Statement.{statement}
 use Rattle.axis_monitor.proofs.monitor_cycle.Tie as tie

@@ -1,5 +1,5 @@
 -- `axis_monitor::usable_cycle` meets its contract. Assumes nothing.
-use mathlib.Core.Path.{_≡_, ap, _∙_}
+use mathlib.Core.Path.{ap, _∙_}
 use denote.Ref.{now}
 use borrow.Author.Needs.{needs}
 use Rattle.machine_data.specs.Data.{lent}

@@ -1,6 +1,6 @@
 -- `cams::next` meets its contract. The loop's invariant: the signals before cam n stand as bits; the measure is what is left of 8.
 -- Assumes nothing.
-use Prim.Native.Nat.{_≤_, _<_, _-_, _%_, _*_, _^_}
+use Prim.Native.Nat.{_≤_, _-_, _*_, _^_}
 use mathlib.Core.Path.{_≡_, refl, _∙_}
 use native.Mathlib.Omega.{arith}
 use borrow.Author.Needs.{needs}

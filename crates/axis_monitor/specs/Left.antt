@@ -65,7 +65,7 @@ reportedBy values state position inputs = reportOf (listFrom values state) (stat
 abbrev pub reporting : Report → ReportLeft
 reporting r = record { words = reportWords r; report = r }
 
--- ---- a cycle's two ways: the word, the state as it is written, the codes
+-- ---- a cycle's two ways, which private functions alone cite: the word, the state as it is written, the codes
 
 pub record WayLeft : Type 0 where
   pub word : ℕ
@@ -75,13 +75,15 @@ pub record WayLeft : Type 0 where
 abbrev pub leftByWay : ℕ → List ℕ → List ℕ → WayLeft
 leftByWay w state′ codes′ = record { word = w; written = writtenAs state′; codes = codes′ }
 
--- what a cycle that gives these leaves of a channel with so many data
+-- what a way leaves that comes to this state and word and to these causes, of a list of so many data
 abbrev pub leaving : ℕ → Advanced → Causes → WayLeft
 leaving count a causes = record { word = a .word; written = writing count (a .state); codes = causes .codes }
 
+-- where the inputs are usable
 unfoldable pub usableLeaves : MachineData → State → Given → WayLeft
 usableLeaves m s g = let f = findingsOf m s g in leaving (m .count) (advancedBy m s g f) (causesIf (f .summary .any) (f .rows))
 
+-- and where they are not
 unfoldable pub unusableLeaves : MachineData → State → WayLeft
 unusableLeaves m s = leaving (m .count) (advancedUnusable m s) (causesOf unusableTable)
 

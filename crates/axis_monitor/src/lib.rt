@@ -81,9 +81,9 @@ fn leave(count: usize, advanced: Advanced, state: &mut Image) -> u32
     advanced.word
 }
 
-// The ways of a cycle are functions of their own: each then writes what it leaves by itself, since the parts that only one of
-// them changes would else be chosen one by one behind them, and the cams come last in theirs, beside the word that shows them,
-// where the compiler takes all eight at once.
+// The ways of a cycle are functions of their own. Each then writes what it leaves by itself: the parts that only one of them
+// changes would else be chosen one by one behind them. And the compiler can put the reckoning of the cams to the end of theirs,
+// beside the word that shows them, and takes all eight at once.
 
 // A usable cycle.
 fn usable_cycle(

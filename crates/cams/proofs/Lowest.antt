@@ -116,8 +116,8 @@ byte-flag true = refl
 byte-flag false = refl
 
 -- what `above` reckons
-pub above-is : (edge : ℤ) (t : ℕ) (position : ℤ) → SFits w32 edge → SFits w32 position →
+pub taken-off : (edge : ℤ) (t : ℕ) (position : ℤ) → SFits w32 edge → SFits w32 position →
     boolByte (ltb (fromLowest edge) (reach (fromLowest position) t)) ≡ flag (ltZ (edge +ℤ pos t) position)
-above-is edge t position f g =
+taken-off edge t position f g =
     byte-flag (ltb (fromLowest edge) (reach (fromLowest position) t))
     ∙ ap flag (below-reach (fromLowest position) t (fromLowest edge) ∙ sym (over-counts edge t position (f .sfits) (g .sfits)))

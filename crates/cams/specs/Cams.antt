@@ -11,7 +11,7 @@ use Rattle.machine_data.specs.Data.{datumOf, entryOf}
 unfoldable pub signalOf : ℤ → ℤ → ℤ → Bool → Bool
 signalOf edge tolerance position before = cond (ltZ (edge +ℤ tolerance) position) true (cond (ltZ position edge) false before)
 
--- W5: "from arithmetic on the two comparisons and the bit kept", each 0 or 1; at a bit's place in a word, where one is w, the bit kept is 0 or w
+-- W5: "from arithmetic on the two comparisons and the bit kept": over and under are 0 or 1; w is what the bit counts in its word, 1 by itself, and kept is 0 or w
 abbrev pub reckoned : ℕ → ℕ → ℕ → ℕ → ℕ
 reckoned w over under kept = (1 - under) * kept + over * (w - (1 - under) * kept)
 

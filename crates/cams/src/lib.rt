@@ -18,8 +18,9 @@ fn from_lowest(z: i32) -> u32
     ((z as i64) + 2147483648) as u32
 }
 
-// 1 where the position is above the edge and its tolerance. The tolerance is taken off the position, as far as it goes, and not
-// put on each edge: the edges are then compared with one number, in 32 bits and side by side.
+// 1 where the position is above the edge and its tolerance. The tolerance is taken off the position and not put on each edge:
+// the edges are then compared with one number, in 32 bits and side by side. Where it would go past the lowest number that one
+// is 0: no edge counts less, so none is overstepped, as it should be.
 fn above(edge: i32, tolerance: u32, position: i32) -> u32
     ensures { λ r. ⌜ r ≡ flag (ltZ (edge +ℤ pos tolerance) position) ⌝ }
 {
@@ -29,7 +30,8 @@ fn above(edge: i32, tolerance: u32, position: i32) -> u32
     (from_lowest(edge) < reach) as u32
 }
 
-// The signal of a cam as a bit of a word, at place n: what was there, less what is below the edge, and filled up to the bit above.
+// The signal of a cam as a bit of a word, at place n: below the edge the bit that was kept is dropped; above edge and tolerance
+// what the bit lacks is added.
 fn signal(edge: i32, tolerance: u32, position: i32, before: u32, n: u32) -> u32
     ensures { λ r. ⌜ r ≡ 2 ^ (n % 8) * flag (signalOf edge (pos tolerance) position (bitOf before (n % 8))) ⌝ }
 {

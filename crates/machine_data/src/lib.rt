@@ -106,7 +106,7 @@ pub fn gear_ratio(values: &Values, g: u8) -> Ratio
     }
 }
 
-// The edge of cam n, in data order, as it stands: it is only compared with, which saves a cycle the look at eight ranges.
+// The edge of cam n, in data order, as it stands: an edge is only compared with, so a cycle need not look at eight ranges.
 pub fn cam_edge(values: &Values, n: usize) -> i32
     ensures { λ r. ⌜ r ≡ entryOf (now (values .entry)) (16 + n % 8) ⌝ }
 {

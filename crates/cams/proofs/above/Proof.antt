@@ -7,7 +7,7 @@ use mir.Facts.{toZ-ofZ}
 use mir.Syntax.{w32}
 use mir.Val.{SFits}
 use Rattle.cams.specs.Lowest.{fromLowest}
-use Rattle.cams.proofs.Lowest.{tolerance-small, tolerance-in, reach-small, above-is}
+use Rattle.cams.proofs.Lowest.{tolerance-small, tolerance-in, reach-small, taken-off}
 use Rattle.cams.proofs.above.Statement.{statement}
 use Rattle.cams.proofs.above.Tie as tie
 
@@ -41,7 +41,7 @@ returns c =
     let g : SFits w32 (k .position) = search needs in
     let at = c .before .from-lowest .ensures ∙ ap fromLowest (toZ-ofZ g) in
     let edge = c .from-lowest2 .ensures ∙ ap fromLowest (toZ-ofZ f) in
-    rw (at, edge) (above-is (k .edge) (k .tolerance) (k .position) f g)
+    rw (at, edge) (taken-off (k .edge) (k .tolerance) (k .position) f g)
 
 pub above-spec : {M : Type 1} → statement M
 above-spec =

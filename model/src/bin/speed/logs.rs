@@ -24,7 +24,7 @@ pub const ACROSS: &str = "cams, by chance across the edges";
 
 pub const FAR: &str = "cams, by chance far from the edges";
 
-/// A seed whose kit has every function on, and whose log comes to every rank.
+/// A seed whose kit has every function on, and whose log comes to every rank. The cams' logs take it too.
 const CHANCE: u64 = 21_242;
 
 pub const LISTS: [(&str, &str); 4] = [

@@ -1,4 +1,5 @@
-//! `speed`: what a cycle costs the proved monitor and the model, on the same kits.
+//! `speed`: what a cycle costs the proved monitor, the model and, where they are linked, the libraries of before, on the same
+//! kits.
 
 mod libraries;
 mod logs;

@@ -69,7 +69,7 @@ fn head(monitors: &[(&str, Monitor)]) -> String {
     }
     let columns = names.matches('|').count();
     format!(
-        "\n| Least nanoseconds, {CYCLES} cycles |{names}\n|---|{}\n",
+        "\n| Least nanoseconds of {CYCLES} cycles, and medians of each turn's ratios |{names}\n|---|{}\n",
         "---:|".repeat(columns)
     )
 }
@@ -108,13 +108,15 @@ impl Turns {
         })
     }
 
+    /// One more sample of each call. Another monitor is first in each round, since the first finds the log cold.
     fn round(&mut self, round: usize) {
-        let turn = round % self.logs.len();
+        let log = round % self.logs.len();
         for (call, samples) in CALLS.into_iter().zip(&mut self.samples) {
-            for (&monitor, samples) in self.monitors.iter().zip(samples) {
+            for of in 0..self.monitors.len() {
+                let of = (of + round) % self.monitors.len();
                 let start = Instant::now();
-                call(&mut self.logs[turn], monitor);
-                samples.push(start.elapsed().as_nanos() as f64 / CYCLES as f64);
+                call(&mut self.logs[log], self.monitors[of]);
+                samples[of].push(start.elapsed().as_nanos() as f64 / CYCLES as f64);
             }
         }
     }
@@ -191,17 +193,19 @@ impl Log {
         })
     }
 
-    /// Whether all monitors give channel A the same words, in the log run and cycle by cycle.
+    /// Whether all monitors give the same words: three a cycle in the log run, and A's again cycle by cycle.
     fn alike(&mut self, monitors: &[Monitor]) -> bool {
-        let mut all = Vec::new();
-        for call in CALLS {
-            for &monitor in monitors {
-                self.output.fill(0);
-                call(self, monitor);
-                all.push(self.output.iter().copied().step_by(3).collect::<Vec<_>>());
-            }
-        }
-        all.iter().all(|words| *words == all[0])
+        self.run(monitors[0]);
+        let words = self.output.clone();
+        monitors.iter().all(|&monitor| {
+            self.output.fill(0);
+            self.run(monitor);
+            let ran = self.output == words;
+            // A's words alone are written again.
+            self.output.iter_mut().step_by(3).for_each(|word| *word = 0);
+            self.channel(monitor);
+            ran && self.output == words
+        })
     }
 
     /// The whole log.
@@ -236,7 +240,9 @@ impl Log {
         for ((record, &report), three) in given.zip(self.output.chunks_exact_mut(3)) {
             let (side, acknowledged) = (record.a, record.acknowledged);
             let cycle = channel.cycle(side.position, side.inputs, acknowledged, report);
-            three[0] = black_box(cycle).word;
+            // The libraries give the codes too.
+            black_box(cycle.causes.list());
+            three[0] = cycle.word;
         }
     }
 }

@@ -26,7 +26,8 @@
 
 static const char *const RANKS[] = {"NONE", "E", "D", "C", "B", "A"};
 static const char *const CAUSES[] = {"",     "UNUSABLE", "SBH",  "SG",       "SE",     "STOP-A", "STOP-C",
-                                     "STOP-D", "STOP-E",   "HOLD", "POSITION", "INPUTS", "DATUM",  "F"};
+                                     "STOP-D", "STOP-E",   "HOLD", "POSITION", "INPUTS", "DATUM",  "F",
+                                     "DIRECTION"};
 
 /* What a line of the text gives the two channels. */
 struct given {

@@ -6,11 +6,11 @@
 #include <stddef.h>
 #include <stdint.h>
 
-#define MONITOR_INTERFACE 5 /* the number of this interface, which monitor_interface() must answer */
+#define MONITOR_INTERFACE 6 /* the number of this interface, which monitor_interface() must answer */
 
 /* How long the lent arrays are. */
-#define MONITOR_DATA 69   /* machine data of a channel, by their numbers; a shorter list leaves the places behind its data 0 */
-#define MONITOR_STATE 19  /* words of a channel's state */
+#define MONITOR_DATA 72   /* machine data of a channel, by their numbers; a shorter list leaves the places behind its data 0 */
+#define MONITOR_STATE 25  /* words of a channel's state */
 #define MONITOR_REPORT 4  /* words of a report */
 #define MONITOR_CODES 13  /* cause codes of a cycle */
 #define MONITOR_TOLD 3    /* numbers that tell a kit's refusal */
@@ -25,7 +25,7 @@ typedef struct monitor_channel {
 } monitor_channel;
 
 /* Words of a state; signed numbers stand in two's complement. */
-#define MONITOR_STATE_COUNT 0         /* how many data the list has, 51, 67 or 69; 0: no list */
+#define MONITOR_STATE_COUNT 0         /* how many data the list has, 51, 67, 69 or 72; 0: no list */
 #define MONITOR_STATE_K 1             /* number of the datum that it reports next */
 #define MONITOR_STATE_HAS_PREVIOUS 2  /* 1 if there is a previous position */
 #define MONITOR_STATE_PREVIOUS 3      /* the previous position, signed */
@@ -44,6 +44,13 @@ typedef struct monitor_channel {
 #define MONITOR_STATE_CAMS 16         /* cam signals, SN1+ in bit 0 */
 #define MONITOR_STATE_NX 17           /* 1 if n<nx is 1; worked out while its function is off too, and left as it is by an unusable cycle */
 #define MONITOR_STATE_NX_RUN 18       /* usable cycles running in which the speed was below nx, not counted past 1,001 */
+/* The last six: a cycle that is unusable, or has safe direction off, leaves them as they are; with it off none begins. */
+#define MONITOR_STATE_POSITIVE_RUN 19     /* usable cycles running in which only positive travel was allowed, not counted past 1,001 */
+#define MONITOR_STATE_POSITIVE_WATCH 20   /* 1 if this is watched */
+#define MONITOR_STATE_POSITIVE_EXTREME 21 /* the highest position since the watch began, signed; 0 without a watch */
+#define MONITOR_STATE_NEGATIVE_RUN 22     /* the same three of negative travel */
+#define MONITOR_STATE_NEGATIVE_WATCH 23   /* 1 if this is watched */
+#define MONITOR_STATE_NEGATIVE_EXTREME 24 /* the lowest position since the watch began, signed; 0 without a watch */
 
 #define MONITOR_NOTHING 0   /* nothing is effective */
 #define MONITOR_SG 1        /* an SG is effective */
@@ -72,8 +79,10 @@ typedef struct monitor_channel {
 #define MONITOR_IN_OVERRIDE 0xf0000000u   /* override number */
 #define MONITOR_IN_OVERRIDE_AT 28         /* its lowest bit */
 #define MONITOR_IN_BITS 0xf03c101bu       /* all of these: what an input word may have with a list of 51 data */
-#define MONITOR_IN_GEAR 0x00000700u       /* number of the gear ratio, with a list of 67 or 69 data; must be 0 with one of 51 */
-#define MONITOR_IN_GEAR_AT 8              /* its lowest bit; every bit that is not named must be 0 */
+#define MONITOR_IN_GEAR 0x00000700u       /* number of the gear ratio; must be 0 with a list of 51 data */
+#define MONITOR_IN_GEAR_AT 8              /* its lowest bit */
+#define MONITOR_IN_POSITIVE_OFF 0x00002000u /* 0: only positive travel is allowed; must be 0 while safe direction is off */
+#define MONITOR_IN_NEGATIVE_OFF 0x00004000u /* 0: only negative travel is allowed; as before. Every bit that is not named must be 0 */
 
 /* Bits of a channel word. */
 #define MONITOR_WORD_EFFECTIVE 0x00000001u /* SBH or SG effective */
@@ -116,6 +125,7 @@ typedef struct monitor_channel {
 #define MONITOR_CAUSE_INPUTS 11   /* input words differ for too long */
 #define MONITOR_CAUSE_DATUM 12    /* datum k or the number of data differs */
 #define MONITOR_CAUSE_F 13        /* F's time is over, and SBH or an SG is effective, or SE or the cams are on */
+#define MONITOR_CAUSE_DIRECTION 14 /* safe direction: too far the forbidden way */
 
 /* Answers of monitor_read_list and monitor_run_log, and told[0] of monitor_run_kit. */
 #define MONITOR_ACCEPTED 0       /* accepted */
@@ -132,6 +142,9 @@ typedef struct monitor_channel {
 #define MONITOR_DATUM_DENOMINATOR 59   /* number of its denominator */
 #define MONITOR_DATUM_NX_HYSTERESIS 67 /* number of the hysteresis of n<nx, in mm/min */
 #define MONITOR_DATUM_NX_FILTER 68     /* number of the filter of n<nx, in cycles */
+#define MONITOR_DATUM_DIRECTION_TOLERANCE 69 /* number of the tolerance of safe direction, in micrometres */
+#define MONITOR_DATUM_DIRECTION_DELAY 70     /* number of its delay, in cycles */
+#define MONITOR_DATUM_DIRECTION_STOP 71      /* number of the rank of its stop */
 
 #ifdef __cplusplus
 #define MONITOR_HOLDS(fact) static_assert(fact, #fact)
@@ -143,8 +156,8 @@ extern "C" {
 #ifndef MONITOR_OWN_BOARD /* a fact of the archives, not of a board that is tried with this header */
 MONITOR_HOLDS(sizeof(size_t) == 8);
 #endif
-MONITOR_HOLDS(sizeof(monitor_channel) == 352);
-MONITOR_HOLDS(offsetof(monitor_channel, state) == 276);
+MONITOR_HOLDS(sizeof(monitor_channel) == 388);
+MONITOR_HOLDS(offsetof(monitor_channel, state) == 288);
 
 /* The number of the library's interface. */
 uint32_t monitor_interface(void);

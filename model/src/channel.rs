@@ -2,6 +2,7 @@
 
 use crate::causes::{self, Causes, Run, F};
 use crate::deviation::{paper, Deviant, Deviation, Paper, Reading};
+use crate::direction::{Directions, DIRECTION_BITS};
 use crate::gear::{Ratio, GEAR_BITS};
 use crate::machine_data::{number, Function, MachineData, COUNT, HEADS};
 use crate::nx::Nx;
@@ -41,7 +42,7 @@ pub fn usable<R: Reading>(r: R, data: &MachineData, position: i32, inputs: u32) 
 }
 
 /// "Every other bit must be 0."; W1: "Input bits 8 to 10 pick one of eight ratios", and with a list headed 51
-/// "bits 8 to 10 being 0 as before"
+/// "bits 8 to 10 being 0 as before"; W6: of bits 13 and 14 "With bit 5 off both must be 0"
 #[inline]
 fn free_bits<R: Reading>(r: R, data: &MachineData) -> u32 {
     let gears = data.head() >= HEADS[1];
@@ -49,6 +50,7 @@ fn free_bits<R: Reading>(r: R, data: &MachineData) -> u32 {
         GearBitsUsableAt51 => true,
         GearBitsUnusableAt67 => false,
         GearBitsUnusableAt69 => gears && data.head() != 69,
+        GearBitsUnusableAt72 => gears && data.head() != 72,
         GearNeedsSbhSg => gears && data.has(r, Function::SbhSg));
     let bits = paper!(r, GEAR_BITS,
         GearBitsOneLower => GEAR_BITS >> 1,
@@ -56,11 +58,17 @@ fn free_bits<R: Reading>(r: R, data: &MachineData) -> u32 {
         FourRatios => 0x300,
         Bit7Free => GEAR_BITS | 1 << 7,
         Bit11Free => GEAR_BITS | 1 << 11);
-    if gears {
-        INPUT_BITS | bits
-    } else {
-        INPUT_BITS
-    }
+    let directions = paper!(r, data.has(r, Function::SafeDirection),
+        DirectionBitsFreeAt72 => data.head() >= 72,
+        DirectionBitsFree => true,
+        DirectionBitsUnusable => false);
+    let direction_bits = paper!(r, DIRECTION_BITS,
+        DirectionBit13Unusable => 1 << 14,
+        DirectionBit14Unusable => 1 << 13,
+        DirectionBitsOneLower => DIRECTION_BITS >> 1,
+        DirectionBitsOneHigher => DIRECTION_BITS << 1,
+        DirectionBit15Free => DIRECTION_BITS | 1 << 15);
+    INPUT_BITS | (if gears { bits } else { 0 }) | (if directions { direction_bits } else { 0 })
 }
 
 /// "A channel's report in a cycle is that cycle's position and whole input word and its datum k."; W1: "The report
@@ -107,6 +115,7 @@ pub struct Channel {
     run: Run,
     cams: [bool; 8],
     nx: Nx,
+    directions: Directions,
     /// Of deviations only: the word to echo, and the ratio of a cycle before.
     echo: Option<u32>,
     earlier: Option<Ratio>,
@@ -130,6 +139,7 @@ impl Channel {
             run: Run(0),
             cams: paper!(r, [false; 8], CamsStartAt1 => [true; 8]),
             nx: Nx::fresh(r),
+            directions: Directions::fresh(r),
             echo: None,
             earlier: None,
         }
@@ -214,6 +224,8 @@ impl Channel {
             self.nx.run += 1;
             self.nx.value |= self.nx.run > i64::from(self.data.get(number::NX_FILTER));
         });
+        // Of deviations only: runs, watches and extremes stay.
+        self.directions_unusable(r, position, inputs, acknowledged);
         let word = self.word(r, Selection::of(r, &self.data, inputs), inputs, None);
         paper!(r, (), UnusableIsPassing => self.stop = before);
         Cycle {
@@ -257,11 +269,13 @@ impl Channel {
                 self.f.count = i64::from(self.data.get(number::TIME_F)) + 1;
             }
         });
+        self.advance_directions(r, &moment, acknowledged);
         let causes = causes::of_cycle(
             r,
             &self.data,
             &moment,
             &self.selections,
+            &self.directions,
             &self.stop,
             &mut self.run,
             &mut self.f,
@@ -276,6 +290,8 @@ impl Channel {
         paper!(r, (),
             ClearPutsNxTo0 => if self.clears(r, acknowledged, &causes) { self.nx.value = false },
             ClearEndsNxRun => if self.clears(r, acknowledged, &causes) { self.nx.run = 0 });
+        // Of deviations only: neither clearing nor cause 14 resets a watch.
+        self.directions_cleared(r, &moment, acknowledged, &causes);
         let word = self.word(r, moment.selected, inputs, Some(&moment));
         self.previous = Some(position);
         paper!(r, (), ClearForgetsPrevious => {
@@ -434,6 +450,78 @@ impl Channel {
         });
     }
 
+    /// W6: the runs and watches of a usable cycle, in whatever stop.
+    #[inline]
+    fn advance_directions<R: Reading>(&mut self, r: R, moment: &Moment, acknowledged: bool) {
+        // Of deviations only.
+        let before = self.directions;
+        self.directions.advance(r, &self.data, moment);
+        paper!(r, (),
+        DirectionWaitsForPrevious => if self.previous.is_none() { self.directions = before },
+        DirectionWaitsInStopA => if self.stop.rank == Rank::A { self.directions = before },
+        DirectionWaitsInStopB => if self.stop.rank == Rank::B { self.directions = before },
+        DirectionWaitsInStop => if self.stop.rank != Rank::None { self.directions = before },
+        StopEndsDirectionRun => if self.stop.rank != Rank::None { self.directions.end_runs() },
+        StopEndsWatch => if self.stop.rank != Rank::None { self.directions.end_watches() },
+        DirectionNotBegunInStopE => if self.stop.rank == Rank::E { self.directions.not_begun(before) },
+        DirectionExtremeStaysInStopD => if self.stop.rank == Rank::D { self.directions.extremes_of(before) },
+        DirectionNotEndedInStopC => if self.stop.rank == Rank::C { self.directions.not_ended(before) },
+        DirectionExtremeStaysHeld => if self.stop.held.is_some() { self.directions.extremes_of(before) },
+        DirectionNotBegunEffective => if self.selections.effective != Selection::Nothing { self.directions.not_begun(before) },
+        DirectionNotBegunInDelay => if self.selections.count > 0 { self.directions.not_begun(before) },
+        DirectionExtremeStaysUnderSbh => if self.selections.effective == Selection::Sbh { self.directions.extremes_of(before) },
+        DirectionExtremeStaysAtSe2 => if bit(moment.inputs, 12) { self.directions.extremes_of(before) },
+        DirectionExtremeStaysApart => if moment.position != moment.report.position { self.directions.extremes_of(before) },
+        DirectionNotEndedUnlike => if moment.inputs != moment.report.inputs { self.directions.not_ended(before) },
+        DirectionNotBegunByHeads => if moment.report.head != self.data.head() { self.directions.not_begun(before) },
+        FEndsWatch => if self.f.on { self.directions.end_watches() },
+        DirectionExtremeStaysWithF => if self.f.on { self.directions.extremes_of(before) },
+        DirectionWaitsAtK0 => if self.k == 0 { self.directions = before },
+        AcknowledgementEndsWatch => if acknowledged { self.directions.end_watches() },
+        AcknowledgementSetsExtreme => if acknowledged { self.directions.extremes_at(moment.position) });
+    }
+
+    /// Of deviations only: an unusable cycle that changes something of the directions, against "counts, runs, .. stay".
+    #[inline]
+    fn directions_unusable<R: Reading>(
+        &mut self,
+        r: R,
+        position: i32,
+        inputs: u32,
+        acknowledged: bool,
+    ) {
+        let directions = &mut self.directions;
+        paper!(r, (),
+            UnusableEndsDirectionRun => directions.end_runs(),
+            UnusableCountsInDirectionRun => directions.longer_runs(1),
+            UnusableTakesFromDirectionRun => directions.longer_runs(-1),
+            UnusableEndsWatch => directions.end_watches(),
+            UnusableEndsWatchByBit => directions.end_where(inputs),
+            UnusableDirectionAsFresh => *directions = Directions::fresh(r),
+            UnusableLosesExtreme => directions.lose_extremes(),
+            UnusableTakenIntoExtreme => directions.take_in(position),
+            UnusableAcknowledgedEndsWatch => if acknowledged { directions.end_watches() });
+    }
+
+    /// Of deviations only: a cycle that clears, or has cause 14, and changes something of the directions by it.
+    #[inline]
+    fn directions_cleared<R: Reading>(
+        &mut self,
+        r: R,
+        moment: &Moment,
+        acknowledged: bool,
+        causes: &Causes,
+    ) {
+        let clears = self.clears(r, acknowledged, causes);
+        let directions = &mut self.directions;
+        paper!(r, (),
+            ClearEndsDirectionRun => if clears { directions.end_runs() },
+            ClearEndsWatch => if clears { directions.end_watches() },
+            ClearSetsExtreme => if clears { directions.extremes_at(moment.position) },
+            Cause14EndsWatch => if causes.stands(14) { directions.end_watches() },
+            Cause14SetsExtreme => if causes.stands(14) { directions.extremes_at(moment.position) });
+    }
+
     /// W3: "An unusable cycle shows 0", whatever is kept.
     #[inline]
     fn shown_nx<R: Reading>(&self, r: R, moment: Option<&Moment>) -> bool {
@@ -460,8 +548,12 @@ impl Channel {
             KStopsAt66 => if self.k == 66 { 66 } else { next },
             KOnlyTo66 => next % 67,
             KOnlyTo67 => next % 68,
-            KAlwaysTo68 => (self.k + 1) % 69,
-            KStopsAt68 => if self.k == 68 { 68 } else { next });
+            KAlwaysTo68 => if self.data.head() < 69 { (self.k + 1) % 69 } else { next },
+            KStopsAt68 => if self.k == 68 { 68 } else { next },
+            KOnlyTo68 => next % 69,
+            KOnlyTo70 => next % 71,
+            KAlwaysTo71 => (self.k + 1) % 72,
+            KStopsAt71 => if self.k == 71 { 71 } else { next });
     }
 
     /// "Channel word: bit 0 SBH or SG effective, 2 pulses cancelled (rank 5), 7 always 1; .."
@@ -625,6 +717,11 @@ impl Channel {
     /// The value of n<nx and its run, worked out with the function off too.
     pub fn nx(&self) -> &Nx {
         &self.nx
+    }
+
+    /// The runs and watches of safe direction.
+    pub fn directions(&self) -> &Directions {
+        &self.directions
     }
 
     /// The cam signals, SN1+ in bit 0, worked out with the function off too.

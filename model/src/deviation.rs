@@ -1,4 +1,4 @@
-//! Readings of document 01 and of requests W1 to W4: the papers themselves, and single deviations from them.
+//! Readings of document 01 and of requests W1 to W6: the papers themselves, and single deviations from them.
 //!
 //! A function of the model takes a reading. [`Paper`] never deviates and costs nothing;
 //! [`Deviant`] is wrong in one place, so that kits can be tried for whether they notice.
@@ -12,6 +12,10 @@
 //! - cam signals, or value and run of n<nx, left as they are while their function is off: a list never changes;
 //! - the run of n<nx counted no further than one past datum 68, or ended where n<nx is 1: n<nx goes to 0 only where the
 //!   run ends all the same, and datum 68 never changes;
+//! - runs, watches and extremes of safe direction kept while its function is off, the run counted no further in a watch, or
+//!   a watch that is only "run > delay": a list never changes;
+//! - cause 14 looked at before the extreme takes in the position: there it lies at the extreme, not behind it;
+//! - what a shorter list has as tolerance, delay and stop: its function is off;
 //! - |d| × 60 divided by T before it is compared with nx or the shutdown speed: for whole n,
 //!   a quotient rounded down is below n just where the quotient is;
 //! - the device's look at bit 2, or at ranks above 5: a channel word has bit 2 just where its
@@ -110,6 +114,13 @@ deviations! {
     FunctionsLowNarrower: "the functions must not be 0", "1 | functions | 0 to 31";
     FunctionsHighWider: "the functions may be 32", "1 | functions | 0 to 31";
     FunctionsHighNarrower: "the functions must not be 31", "1 | functions | 0 to 31";
+    FunctionsOf72LowWider: "the functions may be -1 in a list headed 72", "W6: Function bit 5 enables it, and datum 1 may then be up to 63";
+    FunctionsOf72LowNarrower: "the functions must not be 0 in a list headed 72", "W6: Function bit 5 enables it, and datum 1 may then be up to 63";
+    FunctionsOf72HighWider: "the functions may be 64 in a list headed 72", "W6: Function bit 5 enables it, and datum 1 may then be up to 63";
+    FunctionsOf72HighNarrower: "the functions must not be 63 in a list headed 72", "W6: Function bit 5 enables it, and datum 1 may then be up to 63";
+    FunctionsTo63At69: "the functions may be up to 63 in a list headed 69, too", "W1: in a shorter list they count as 0 and their functions are refused as out of range";
+    FunctionsTo63AtAnyHead: "the functions may be up to 63 in every list", "W1: in a shorter list they count as 0 and their functions are refused as out of range";
+    FunctionsTo31At72: "the functions must not be above 31 in a list headed 72", "W6: Function bit 5 enables it, and datum 1 may then be up to 63";
     StandstillLowWider: "the standstill tolerance may be -1", "2 | standstill tolerance | 0 to 100,000";
     StandstillLowNarrower: "the standstill tolerance must not be 0", "2 | standstill tolerance | 0 to 100,000";
     StandstillHighWider: "the standstill tolerance may be 100,001", "2 | standstill tolerance | 0 to 100,000";
@@ -182,8 +193,21 @@ deviations! {
     NxFilterLowNarrower: "the filter of n<nx must not be 0", "W3: Data 67 (0 to 1,000,000 mm/min) and 68 (0 to 1,000 cycles) are added.";
     NxFilterHighWider: "the filter of n<nx may be 1,001", "W3: Data 67 (0 to 1,000,000 mm/min) and 68 (0 to 1,000 cycles) are added.";
     NxFilterHighNarrower: "the filter of n<nx must be at most 999", "W3: Data 67 (0 to 1,000,000 mm/min) and 68 (0 to 1,000 cycles) are added.";
+    DirectionToleranceLowWider: "the tolerance of safe direction may be -1", "W6: Data 69 to 71 are tolerance (0 to 100,000), delay (0 to 1,000) and stop (1 to 5).";
+    DirectionToleranceLowNarrower: "the tolerance of safe direction must not be 0", "W6: Data 69 to 71 are tolerance (0 to 100,000), delay (0 to 1,000) and stop (1 to 5).";
+    DirectionToleranceHighWider: "the tolerance of safe direction may be 100,001", "W6: Data 69 to 71 are tolerance (0 to 100,000), delay (0 to 1,000) and stop (1 to 5).";
+    DirectionToleranceHighNarrower: "the tolerance of safe direction must be at most 99,999", "W6: Data 69 to 71 are tolerance (0 to 100,000), delay (0 to 1,000) and stop (1 to 5).";
+    DirectionDelayLowWider: "the delay of safe direction may be -1", "W6: Data 69 to 71 are tolerance (0 to 100,000), delay (0 to 1,000) and stop (1 to 5).";
+    DirectionDelayLowNarrower: "the delay of safe direction must not be 0", "W6: Data 69 to 71 are tolerance (0 to 100,000), delay (0 to 1,000) and stop (1 to 5).";
+    DirectionDelayHighWider: "the delay of safe direction may be 1,001", "W6: Data 69 to 71 are tolerance (0 to 100,000), delay (0 to 1,000) and stop (1 to 5).";
+    DirectionDelayHighNarrower: "the delay of safe direction must be at most 999", "W6: Data 69 to 71 are tolerance (0 to 100,000), delay (0 to 1,000) and stop (1 to 5).";
+    DirectionStopLowWider: "the stop of safe direction may be 0", "W6: Data 69 to 71 are tolerance (0 to 100,000), delay (0 to 1,000) and stop (1 to 5).";
+    DirectionStopLowNarrower: "the stop of safe direction must not be E", "W6: Data 69 to 71 are tolerance (0 to 100,000), delay (0 to 1,000) and stop (1 to 5).";
+    DirectionStopHighWider: "the stop of safe direction may be 6", "W6: Data 69 to 71 are tolerance (0 to 100,000), delay (0 to 1,000) and stop (1 to 5).";
+    DirectionStopHighNarrower: "the stop of safe direction must not be A", "W6: Data 69 to 71 are tolerance (0 to 100,000), delay (0 to 1,000) and stop (1 to 5).";
     FunctionsSeAndCamsSwapped: "function bit 1 is the cams and bit 2 is SE", "1 | functions; bit 0 SBH/SG, 1 SE, 2 cams, 3 n<nx, 4 external stops";
     FunctionsNxAndStopsSwapped: "function bit 3 is the external stops and bit 4 is n<nx", "1 | functions; bit 0 SBH/SG, 1 SE, 2 cams, 3 n<nx, 4 external stops";
+    FunctionsStopsAndDirectionSwapped: "function bit 4 is safe direction and bit 5 is the external stops", "W6: Function bit 5 enables it";
 
     // Words.
     PiecesLeastFirst: "the first piece is the least significant", "Kind 3: piece, 16 bits, most significant first.";
@@ -216,22 +240,31 @@ deviations! {
     Head67Refused: "a head of 67 is refused", "W1: the list head then says 67";
     Head67Of51Data: "a list headed 67 is read as one of 51 data", "W1: the list head then says 67";
     Head68Taken: "a head of 68 is taken, with as many data", "W1: Data added by later tickets raise the head likewise";
-    HeadsAboveTaken: "a head above 69 is taken for one of 69", "W1: Data added by later tickets raise the head likewise";
+    HeadsAboveTaken: "a head above 72 is taken for one of 72", "W1: Data added by later tickets raise the head likewise";
     Head69Refused: "a head of 69 is refused", "W1: Data added by later tickets raise the head likewise";
     Head69Of67Data: "a list headed 69 is read as one of 67 data", "W1: Data added by later tickets raise the head likewise";
     Head69Of51Data: "a list headed 69 is read as one of 51 data", "W1: Data added by later tickets raise the head likewise";
+    Heads70And71Taken: "a head of 70 or 71 is taken, with as many data", "W1: Data added by later tickets raise the head likewise";
+    Head72Refused: "a head of 72 is refused", "W1: Data added by later tickets raise the head likewise";
+    Head72Of69Data: "a list headed 72 is read as one of 69 data", "W1: Data added by later tickets raise the head likewise";
+    Head72Of67Data: "a list headed 72 is read as one of 67 data", "W1: Data added by later tickets raise the head likewise";
+    Head72Of51Data: "a list headed 72 is read as one of 51 data", "W1: Data added by later tickets raise the head likewise";
     DataBehindHeadTaken: "a list headed 51 takes data 51 to 66 where they follow", "W1: the list head then says 67";
     DataBehind67Taken: "a list headed 67 takes data 67 and 68 where they follow", "W1: Data added by later tickets raise the head likewise";
+    DataBehind69Taken: "a list headed 69 takes data 69 to 71 where they follow", "W1: Data added by later tickets raise the head likewise";
     ListMayEndAt51: "a list headed 67 may end behind datum 50", "W1: the list head then says 67";
     ListMayEndAt67: "a list headed 69 may end behind datum 66", "W1: Data added by later tickets raise the head likewise";
+    ListMayEndAt69: "a list headed 72 may end behind datum 68", "W1: Data added by later tickets raise the head likewise";
     LackedNumeratorsAre0: "in a list headed 51 the numerators are 0", "W1: A list headed 51 is read with every ratio 1 to 1";
     LackedDenominatorsAre0: "in a list headed 51 the denominators are 0", "W1: A list headed 51 is read with every ratio 1 to 1";
     LackedHysteresisIs1: "in a shorter list the hysteresis of n<nx is 1", "W1: in a shorter list they count as 0";
     LackedFilterIs1: "in a shorter list the filter of n<nx is 1", "W1: in a shorter list they count as 0";
     OpenRatioIs1: "an open numerator or denominator is 1", "datum open | 2";
     OpenNxDatumIs0: "an open hysteresis or filter of n<nx is 0", "datum open | 2";
+    OpenDirectionDatumIsLowest: "an open tolerance, delay or stop of safe direction is its lowest", "datum open | 2";
     SeEndsBeforeRatios: "number 5 is told before data 51 to 66 are looked at", "per datum 1, 2, 3, 4; then 5";
     SeEndsBeforeNxData: "number 5 is told before data 67 and 68 are looked at", "per datum 1, 2, 3, 4; then 5";
+    SeEndsBeforeDirectionData: "number 5 is told before data 69 to 71 are looked at", "per datum 1, 2, 3, 4; then 5";
     UnlikeHeadsRefused: "a list B with another head than list A's is refused", "W1: cause 12 also stands where heads differ";
     DatumNumberIgnored: "a datum word of any number is taken", "A list is a head and the data in number order.";
     DatumBitsIgnored: "unused bits of a datum word are ignored", "the top 4 bits are the kind, unused bits 0";
@@ -296,9 +329,16 @@ deviations! {
     GearBitsUsableAt51: "with a list headed 51 input bits 8 to 10 may be 1, and the ratio stays 1 to 1", "W1: its logs keep their words, bits 8 to 10 being 0 as before";
     GearBitsUnusableAt67: "input bits 8 to 10 must be 0 with a list headed 67 too", "W1: Input bits 8 to 10 pick one of eight ratios";
     GearBitsUnusableAt69: "input bits 8 to 10 must be 0 with a list headed 69", "W1: Input bits 8 to 10 pick one of eight ratios";
+    GearBitsUnusableAt72: "input bits 8 to 10 must be 0 with a list headed 72", "W1: Input bits 8 to 10 pick one of eight ratios";
     GearNeedsSbhSg: "input bits 8 to 10 may be 1 only with function 0 on", "W1: Input bits 8 to 10 pick one of eight ratios";
     Bit7Free: "input bit 7 may be 1 with a list headed 67", "Every other bit must be 0.";
     Bit11Free: "input bit 11 may be 1 with a list headed 67", "Every other bit must be 0.";
+    DirectionBitsFreeAt72: "with function 5 off input bits 13 and 14 may be 1 with a list headed 72", "W6: With bit 5 off both must be 0 and no run or watch stands.";
+    DirectionBitsFree: "input bits 13 and 14 may be 1 with every list", "W6: With bit 5 off both must be 0 and no run or watch stands.";
+    DirectionBitsUnusable: "input bits 13 and 14 must be 0 with function 5 on too", "W6: input bits 13 and 14, when 0, allow only positive and only negative travel, both 0 neither";
+    DirectionBit13Unusable: "input bit 13 must be 0 with function 5 on too", "W6: input bits 13 and 14, when 0, allow only positive and only negative travel, both 0 neither";
+    DirectionBit14Unusable: "input bit 14 must be 0 with function 5 on too", "W6: input bits 13 and 14, when 0, allow only positive and only negative travel, both 0 neither";
+    DirectionBit15Free: "input bit 15 may be 1 with function 5 on", "Every other bit must be 0.";
     GearBitsReversed: "input bit 8 is the highest of the ratio's number", "W1: Input bits 8 to 10 pick one of eight ratios";
     GearBitsOneLower: "input bits 7 to 9 pick the ratio", "W1: Input bits 8 to 10 pick one of eight ratios";
     GearBitsOneHigher: "input bits 9 to 11 pick the ratio", "W1: Input bits 8 to 10 pick one of eight ratios";
@@ -311,6 +351,7 @@ deviations! {
     RatioInPairs: "data 51, 53, .. are the numerators and 52, 54, .. the denominators", "W1: Data 51 to 58 are the numerators and 59 to 66 the denominators";
     RatioSwapped: "data 51 to 58 are the denominators and 59 to 66 the numerators", "W1: Data 51 to 58 are the numerators and 59 to 66 the denominators";
     RatioIs1At69: "with a list headed 69 every ratio is 1 to 1", "W1: Input bits 8 to 10 pick one of eight ratios";
+    RatioIs1At72: "with a list headed 72 every ratio is 1 to 1", "W1: Input bits 8 to 10 pick one of eight ratios";
     RatioOfReport: "the other channel's input bits pick the ratio", "W1: Input bits 8 to 10 pick one of eight ratios";
     RatioOfCycleBefore: "the ratio is that of the cycle before", "W1: Input bits 8 to 10 pick one of eight ratios (those of the present cycle)";
     RatioOfFirstCycle: "the ratio is that of the first usable cycle", "W1: Input bits 8 to 10 pick one of eight ratios (those of the present cycle)";
@@ -330,6 +371,10 @@ deviations! {
     KOnlyTo67: "k follows 67 by 0", "W1: k runs over as many data as the list has";
     KAlwaysTo68: "k follows 68 by 0 with shorter lists too", "W1: k runs over as many data as the list has";
     KStopsAt68: "k stays at 68", "W1: k runs over as many data as the list has";
+    KOnlyTo68: "k follows 68 by 0 with a list headed 72 too", "W1: k runs over as many data as the list has";
+    KOnlyTo70: "k follows 70 by 0", "W1: k runs over as many data as the list has";
+    KAlwaysTo71: "k follows 71 by 0 with shorter lists too", "W1: k runs over as many data as the list has";
+    KStopsAt71: "k stays at 71", "W1: k runs over as many data as the list has";
 
     // Step 1.
     UnusableIsB: "an unusable cycle enters STOP B", "1. Unusable: cause 1, rank 5, not held.";
@@ -360,6 +405,15 @@ deviations! {
     UnusableNxRunCounts: "an unusable cycle counts in the run of n<nx", "W3: An unusable cycle shows 0 and leaves value and run as they were.";
     UnusableNxRunFalls: "an unusable cycle takes one from the run of n<nx", "W3: An unusable cycle shows 0 and leaves value and run as they were.";
     UnusableNxWorkedOut: "in an unusable cycle n<nx is worked out as at rest", "W3: An unusable cycle shows 0 and leaves value and run as they were.";
+    UnusableEndsDirectionRun: "an unusable cycle begins the delay of safe direction anew", "counts, runs, F, selections, references and cams stay";
+    UnusableCountsInDirectionRun: "an unusable cycle counts in the runs of safe direction", "W6: A direction starts its watch when its bit has been 0 for more than the delay in usable cycles running, and ends it in a usable cycle where it is 1.";
+    UnusableTakesFromDirectionRun: "an unusable cycle takes one from the runs of safe direction", "counts, runs, F, selections, references and cams stay";
+    UnusableEndsWatch: "an unusable cycle ends the watches", "W6: A direction starts its watch when its bit has been 0 for more than the delay in usable cycles running, and ends it in a usable cycle where it is 1.";
+    UnusableEndsWatchByBit: "an unusable cycle ends run and watch of a direction whose bit is 1", "W6: A direction starts its watch when its bit has been 0 for more than the delay in usable cycles running, and ends it in a usable cycle where it is 1.";
+    UnusableDirectionAsFresh: "an unusable cycle ends runs and watches", "counts, runs, F, selections, references and cams stay";
+    UnusableLosesExtreme: "behind an unusable cycle a watch takes its extreme anew", "W6: Positive-only is overstepped where the position is more than the tolerance below the highest in the usable cycles since the watch began, and the negative is its mirror; this is cause 14, fresh.";
+    UnusableTakenIntoExtreme: "an extreme takes in the position of an unusable cycle", "W6: Positive-only is overstepped where the position is more than the tolerance below the highest in the usable cycles since the watch began, and the negative is its mirror; this is cause 14, fresh.";
+    UnusableAcknowledgedEndsWatch: "an acknowledged unusable cycle ends the watches", "W6: A direction starts its watch when its bit has been 0 for more than the delay in usable cycles running, and ends it in a usable cycle where it is 1.";
 
     // Step 2.
     StepOfScaledPositions: "d is the difference of two positions, each times its cycle's ratio", "W1: Positions aren't scaled.";
@@ -452,6 +506,102 @@ deviations! {
     HoldScaled: "the distance from a hold's reference is scaled by the ratio", "W1: Positions aren't scaled.";
     HoldRankA: "cause 9 has rank 5", "9 held, distance from the hold's reference over datum 2, rank 4";
     HoldRankC: "cause 9 has rank 3", "9 held, distance from the hold's reference over datum 2, rank 4";
+    DirectionFunctionIgnored: "safe direction is watched with function 5 off too, in a list headed 72", "W6: With bit 5 off both must be 0 and no run or watch stands.";
+    DirectionsSwapped: "input bit 13 at 0 allows only negative travel and bit 14 only positive", "W6: input bits 13 and 14, when 0, allow only positive and only negative travel, both 0 neither";
+    DirectionBitsOneLower: "input bits 12 and 13 are those of safe direction", "W6: input bits 13 and 14, when 0, allow only positive and only negative travel, both 0 neither";
+    DirectionBitsOneHigher: "input bits 14 and 15 are those of safe direction", "W6: input bits 13 and 14, when 0, allow only positive and only negative travel, both 0 neither";
+    DirectionForbiddenBy1: "input bits 13 and 14 restrict the travel by 1", "W6: input bits 13 and 14, when 0, allow only positive and only negative travel, both 0 neither";
+    DirectionOfReport: "the other channel's bits 13 and 14 count", "W6: input bits 13 and 14, when 0, allow only positive and only negative travel, both 0 neither";
+    DirectionBit13Ignored: "input bit 13 is ignored", "W6: input bits 13 and 14, when 0, allow only positive and only negative travel, both 0 neither";
+    DirectionBit14Ignored: "input bit 14 is ignored", "W6: input bits 13 and 14, when 0, allow only positive and only negative travel, both 0 neither";
+    DirectionNeitherIsPositive: "with both bits at 0 only positive travel is allowed", "W6: input bits 13 and 14, when 0, allow only positive and only negative travel, both 0 neither";
+    DirectionNeitherIsNegative: "with both bits at 0 only negative travel is allowed", "W6: input bits 13 and 14, when 0, allow only positive and only negative travel, both 0 neither";
+    DirectionNeitherIsFree: "with both bits at 0 both ways are free", "W6: input bits 13 and 14, when 0, allow only positive and only negative travel, both 0 neither";
+    DirectionNeitherOnly: "a direction is watched only while both bits are 0", "W6: input bits 13 and 14, when 0, allow only positive and only negative travel, both 0 neither";
+    DirectionEitherForbidsBoth: "either bit at 0 forbids both ways", "W6: input bits 13 and 14, when 0, allow only positive and only negative travel, both 0 neither";
+    DirectionRunFresh1: "the fresh runs of safe direction are 1", "A fresh channel has .. all counts and runs 0";
+    DirectionDelayAtLeast: "a watch starts in as many cycles as the delay says", "W6: A direction starts its watch when its bit has been 0 for more than the delay in usable cycles running, and ends it in a usable cycle where it is 1.";
+    DirectionDelayOneMore: "a watch starts one cycle later", "W6: A direction starts its watch when its bit has been 0 for more than the delay in usable cycles running, and ends it in a usable cycle where it is 1.";
+    DirectionDelayIgnored: "a watch starts in the first cycle with its bit at 0", "W6: A direction starts its watch when its bit has been 0 for more than the delay in usable cycles running, and ends it in a usable cycle where it is 1.";
+    DirectionDelayAtLeast1: "a delay of 0 is taken as 1", "W6: A direction starts its watch when its bit has been 0 for more than the delay in usable cycles running, and ends it in a usable cycle where it is 1.";
+    DirectionDelayInMs: "the delay of safe direction is taken in milliseconds", "W6: Data 69 to 71 are tolerance (0 to 100,000), delay (0 to 1,000) and stop (1 to 5).";
+    DirectionDelayOfSelection: "the delay of safe direction is datum 27", "W6: Data 69 to 71 are tolerance (0 to 100,000), delay (0 to 1,000) and stop (1 to 5).";
+    DirectionDelayOfFilter: "the delay of safe direction is datum 68", "W6: Data 69 to 71 are tolerance (0 to 100,000), delay (0 to 1,000) and stop (1 to 5).";
+    DirectionDataSwapped: "datum 69 is the delay of safe direction and datum 70 its tolerance", "W6: Data 69 to 71 are tolerance (0 to 100,000), delay (0 to 1,000) and stop (1 to 5).";
+    DirectionRunStopsAt1000: "the runs of safe direction are not counted past 1,000", "W6: A direction starts its watch when its bit has been 0 for more than the delay in usable cycles running, and ends it in a usable cycle where it is 1.";
+    DirectionRunStopsAtDelay: "the runs of safe direction are not counted past the delay", "W6: A direction starts its watch when its bit has been 0 for more than the delay in usable cycles running, and ends it in a usable cycle where it is 1.";
+    DirectionRunNotEnded: "a bit at 1 ends the watch and leaves the run", "W6: A direction starts its watch when its bit has been 0 for more than the delay in usable cycles running, and ends it in a usable cycle where it is 1.";
+    DirectionRunFalls: "a bit at 1 takes one from the run", "W6: A direction starts its watch when its bit has been 0 for more than the delay in usable cycles running, and ends it in a usable cycle where it is 1.";
+    DirectionRunShared: "both directions have one run, which goes on while either bit is 0", "W6: A direction starts its watch when its bit has been 0 for more than the delay in usable cycles running, and ends it in a usable cycle where it is 1.";
+    DirectionWatchNotEnded: "a bit at 1 does not end the watch", "W6: A direction starts its watch when its bit has been 0 for more than the delay in usable cycles running, and ends it in a usable cycle where it is 1.";
+    DirectionEndsInTwo: "run and watch end only where the bit is 1 for two cycles running", "W6: A direction starts its watch when its bit has been 0 for more than the delay in usable cycles running, and ends it in a usable cycle where it is 1.";
+    DirectionWatchShared: "the watch of one direction begins that of the other", "W6: A direction starts its watch when its bit has been 0 for more than the delay in usable cycles running, and ends it in a usable cycle where it is 1.";
+    DirectionExtremeStays: "the extreme is the position where the watch began", "W6: Positive-only is overstepped where the position is more than the tolerance below the highest in the usable cycles since the watch began, and the negative is its mirror; this is cause 14, fresh.";
+    DirectionLowestStays: "the lowest position of the negative direction is the one where the watch began", "W6: Positive-only is overstepped where the position is more than the tolerance below the highest in the usable cycles since the watch began, and the negative is its mirror; this is cause 14, fresh.";
+    DirectionExtremeOfAllTime: "the extreme is that of all usable cycles", "W6: Positive-only is overstepped where the position is more than the tolerance below the highest in the usable cycles since the watch began, and the negative is its mirror; this is cause 14, fresh.";
+    DirectionExtremeFromBit0: "the extreme is that of all cycles since the bit is 0", "W6: Positive-only is overstepped where the position is more than the tolerance below the highest in the usable cycles since the watch began, and the negative is its mirror; this is cause 14, fresh.";
+    DirectionExtremeFromCycleBefore: "a watch begins with the previous position as its extreme", "W6: Positive-only is overstepped where the position is more than the tolerance below the highest in the usable cycles since the watch began, and the negative is its mirror; this is cause 14, fresh.";
+    DirectionExtremeFrom0: "the extreme begins with position 0", "W6: Positive-only is overstepped where the position is more than the tolerance below the highest in the usable cycles since the watch began, and the negative is its mirror; this is cause 14, fresh.";
+    DirectionExtremeOfReport: "the extreme is that of the other channel's positions", "W6: Positive-only is overstepped where the position is more than the tolerance below the highest in the usable cycles since the watch began, and the negative is its mirror; this is cause 14, fresh.";
+    DirectionExtremeShared: "both directions have one extreme", "W6: Positive-only is overstepped where the position is more than the tolerance below the highest in the usable cycles since the watch began, and the negative is its mirror; this is cause 14, fresh.";
+    DirectionByStep: "the position is compared with the previous one, not with the extreme", "W6: Positive-only is overstepped where the position is more than the tolerance below the highest in the usable cycles since the watch began, and the negative is its mirror; this is cause 14, fresh.";
+    DirectionNegativeAsPositive: "the negative direction forbids what the positive one does", "W6: Positive-only is overstepped where the position is more than the tolerance below the highest in the usable cycles since the watch began, and the negative is its mirror; this is cause 14, fresh.";
+    DirectionDistanceOf28Bits: "the distance from the extreme is cut to 28 bits", "W6: Positive-only is overstepped where the position is more than the tolerance below the highest in the usable cycles since the watch began, and the negative is its mirror; this is cause 14, fresh.";
+    DirectionAtTolerance: "cause 14 stands at the tolerance itself", "W6: Positive-only is overstepped where the position is more than the tolerance below the highest in the usable cycles since the watch began, and the negative is its mirror; this is cause 14, fresh.";
+    DirectionToleranceOneMore: "cause 14 stands one beyond the tolerance only", "W6: Positive-only is overstepped where the position is more than the tolerance below the highest in the usable cycles since the watch began, and the negative is its mirror; this is cause 14, fresh.";
+    DirectionDistanceScaled: "the distance from the extreme is scaled by the ratio", "W1: Positions aren't scaled.";
+    DirectionToleranceOfStandstill: "the tolerance of safe direction is datum 2", "W6: Data 69 to 71 are tolerance (0 to 100,000), delay (0 to 1,000) and stop (1 to 5).";
+    DirectionToleranceOfCams: "the tolerance of safe direction is datum 24", "W6: Data 69 to 71 are tolerance (0 to 100,000), delay (0 to 1,000) and stop (1 to 5).";
+    DirectionToleranceOfDifference: "the tolerance of safe direction is datum 26", "W6: Data 69 to 71 are tolerance (0 to 100,000), delay (0 to 1,000) and stop (1 to 5).";
+    DirectionToleranceIgnored: "the tolerance of safe direction is 0", "W6: Positive-only is overstepped where the position is more than the tolerance below the highest in the usable cycles since the watch began, and the negative is its mirror; this is cause 14, fresh.";
+    DirectionToleranceHalved: "half of the tolerance lies on either side of the extreme", "W6: Positive-only is overstepped where the position is more than the tolerance below the highest in the usable cycles since the watch began, and the negative is its mirror; this is cause 14, fresh.";
+    DirectionToleranceEven: "the tolerance of safe direction is taken without its lowest bit", "W6: Positive-only is overstepped where the position is more than the tolerance below the highest in the usable cycles since the watch began, and the negative is its mirror; this is cause 14, fresh.";
+    DirectionToleranceOf16Bits: "the tolerance of safe direction is cut to 16 bits", "W6: Positive-only is overstepped where the position is more than the tolerance below the highest in the usable cycles since the watch began, and the negative is its mirror; this is cause 14, fresh.";
+    DirectionOnlyMoving: "cause 14 stands only where the axis moves", "W6: Positive-only is overstepped where the position is more than the tolerance below the highest in the usable cycles since the watch began, and the negative is its mirror; this is cause 14, fresh.";
+    DirectionOnlyForbiddenWay: "cause 14 stands only where the step goes the forbidden way", "W6: Positive-only is overstepped where the position is more than the tolerance below the highest in the usable cycles since the watch began, and the negative is its mirror; this is cause 14, fresh.";
+    DirectionNeedsNothingSelected: "cause 14 stands only while neither SBH nor an SG is selected", "W6: Positive-only is overstepped where the position is more than the tolerance below the highest in the usable cycles since the watch began, and the negative is its mirror; this is cause 14, fresh.";
+    DirectionBothOverstepped: "cause 14 stands only where both directions are overstepped", "W6: Positive-only is overstepped where the position is more than the tolerance below the highest in the usable cycles since the watch began, and the negative is its mirror; this is cause 14, fresh.";
+    DirectionRankC: "cause 14 always has rank 3", "W6: Cause 14 has the rank of datum 71";
+    DirectionRankB: "cause 14 always has rank 4", "W6: Cause 14 has the rank of datum 71";
+    DirectionRankOfSg1: "cause 14 has the stop of SG1", "W6: Cause 14 has the rank of datum 71";
+    DirectionRankOfSe: "cause 14 has the stop of SE", "W6: Cause 14 has the rank of datum 71";
+    DirectionWithoutRank: "cause 14 has no rank", "W6: Cause 14 has the rank of datum 71";
+    DirectionRankAtMostC: "cause 14 has rank 3 at most", "W6: Cause 14 has the rank of datum 71";
+    DirectionRankAtLeastC: "cause 14 has rank 3 at least", "W6: Cause 14 has the rank of datum 71";
+    Cause14NotInStop: "cause 14 stands only while there is no stop", "W6: Positive-only is overstepped where the position is more than the tolerance below the highest in the usable cycles since the watch began, and the negative is its mirror; this is cause 14, fresh.";
+    Cause14NotHeld: "cause 14 does not stand while a stop is held", "W6: Positive-only is overstepped where the position is more than the tolerance below the highest in the usable cycles since the watch began, and the negative is its mirror; this is cause 14, fresh.";
+    Cause14NotUnderSbh: "cause 14 does not stand while SBH is effective", "W6: Positive-only is overstepped where the position is more than the tolerance below the highest in the usable cycles since the watch began, and the negative is its mirror; this is cause 14, fresh.";
+    Cause14NotInDelay: "cause 14 does not stand while a selection waits", "W6: Positive-only is overstepped where the position is more than the tolerance below the highest in the usable cycles since the watch began, and the negative is its mirror; this is cause 14, fresh.";
+    Cause14NotOutsideSe: "cause 14 does not stand beside cause 4", "W6: Positive-only is overstepped where the position is more than the tolerance below the highest in the usable cycles since the watch began, and the negative is its mirror; this is cause 14, fresh.";
+    Cause14NotApart: "cause 14 does not stand where the positions differ", "W6: Positive-only is overstepped where the position is more than the tolerance below the highest in the usable cycles since the watch began, and the negative is its mirror; this is cause 14, fresh.";
+    Cause14NotAtSe2: "cause 14 does not stand while SE2 is chosen", "W6: Positive-only is overstepped where the position is more than the tolerance below the highest in the usable cycles since the watch began, and the negative is its mirror; this is cause 14, fresh.";
+    DirectionWaitsForPrevious: "runs and watches stay in a cycle without a previous position", "W6: A direction starts its watch when its bit has been 0 for more than the delay in usable cycles running, and ends it in a usable cycle where it is 1.";
+    DirectionWaitsInStopA: "runs and watches stay in STOP A", "W6: A direction starts its watch when its bit has been 0 for more than the delay in usable cycles running, and ends it in a usable cycle where it is 1.";
+    DirectionWaitsInStopB: "runs and watches stay in STOP B", "W6: A direction starts its watch when its bit has been 0 for more than the delay in usable cycles running, and ends it in a usable cycle where it is 1.";
+    DirectionWaitsInStop: "runs and watches stay in every stop", "W6: A direction starts its watch when its bit has been 0 for more than the delay in usable cycles running, and ends it in a usable cycle where it is 1.";
+    StopEndsDirectionRun: "a stop ends the runs of safe direction", "W6: A direction starts its watch when its bit has been 0 for more than the delay in usable cycles running, and ends it in a usable cycle where it is 1.";
+    StopEndsWatch: "a stop ends the watches", "W6: A direction starts its watch when its bit has been 0 for more than the delay in usable cycles running, and ends it in a usable cycle where it is 1.";
+    DirectionNotBegunInStopE: "no watch begins in STOP E", "W6: A direction starts its watch when its bit has been 0 for more than the delay in usable cycles running, and ends it in a usable cycle where it is 1.";
+    DirectionExtremeStaysInStopD: "the extreme stays in STOP D", "W6: Positive-only is overstepped where the position is more than the tolerance below the highest in the usable cycles since the watch began, and the negative is its mirror; this is cause 14, fresh.";
+    DirectionNotEndedInStopC: "a bit at 1 does not end the watch in STOP C", "W6: A direction starts its watch when its bit has been 0 for more than the delay in usable cycles running, and ends it in a usable cycle where it is 1.";
+    DirectionExtremeStaysHeld: "the extreme stays while a stop is held", "W6: Positive-only is overstepped where the position is more than the tolerance below the highest in the usable cycles since the watch began, and the negative is its mirror; this is cause 14, fresh.";
+    DirectionNotBegunEffective: "no watch begins while SBH or SG is effective", "W6: A direction starts its watch when its bit has been 0 for more than the delay in usable cycles running, and ends it in a usable cycle where it is 1.";
+    DirectionNotBegunInDelay: "no watch begins while a selection waits", "W6: A direction starts its watch when its bit has been 0 for more than the delay in usable cycles running, and ends it in a usable cycle where it is 1.";
+    DirectionExtremeStaysUnderSbh: "the extreme stays while SBH is effective", "W6: Positive-only is overstepped where the position is more than the tolerance below the highest in the usable cycles since the watch began, and the negative is its mirror; this is cause 14, fresh.";
+    DirectionExtremeStaysAtSe2: "the extreme stays while SE2 is chosen", "W6: Positive-only is overstepped where the position is more than the tolerance below the highest in the usable cycles since the watch began, and the negative is its mirror; this is cause 14, fresh.";
+    DirectionExtremeStaysApart: "the extreme stays while the positions differ", "W6: Positive-only is overstepped where the position is more than the tolerance below the highest in the usable cycles since the watch began, and the negative is its mirror; this is cause 14, fresh.";
+    DirectionNotEndedUnlike: "a bit at 1 does not end the watch while the inputs differ", "W6: A direction starts its watch when its bit has been 0 for more than the delay in usable cycles running, and ends it in a usable cycle where it is 1.";
+    DirectionNotBegunByHeads: "no watch begins while the heads differ", "W6: A direction starts its watch when its bit has been 0 for more than the delay in usable cycles running, and ends it in a usable cycle where it is 1.";
+    FEndsWatch: "F ends the watches", "W6: A direction starts its watch when its bit has been 0 for more than the delay in usable cycles running, and ends it in a usable cycle where it is 1.";
+    DirectionExtremeStaysWithF: "the extreme stays while F is on", "W6: Positive-only is overstepped where the position is more than the tolerance below the highest in the usable cycles since the watch began, and the negative is its mirror; this is cause 14, fresh.";
+    DirectionWaitsAtK0: "runs and watches stay where k is 0", "W6: A direction starts its watch when its bit has been 0 for more than the delay in usable cycles running, and ends it in a usable cycle where it is 1.";
+    AcknowledgementEndsWatch: "an acknowledgement ends the watches", "5. Acknowledged and no fresh cause: rank 0, not held, F off. (nothing else)";
+    AcknowledgementSetsExtreme: "an acknowledgement takes the extremes anew", "5. Acknowledged and no fresh cause: rank 0, not held, F off. (nothing else)";
+    ClearEndsDirectionRun: "clearing ends the runs of safe direction", "5. Acknowledged and no fresh cause: rank 0, not held, F off. (nothing else)";
+    ClearEndsWatch: "clearing ends the watches", "5. Acknowledged and no fresh cause: rank 0, not held, F off. (nothing else)";
+    ClearSetsExtreme: "clearing takes the extremes anew", "5. Acknowledged and no fresh cause: rank 0, not held, F off. (nothing else)";
+    Cause14EndsWatch: "cause 14 ends the watches", "W6: A direction starts its watch when its bit has been 0 for more than the delay in usable cycles running, and ends it in a usable cycle where it is 1.";
+    Cause14SetsExtreme: "cause 14 takes the extremes anew", "W6: Positive-only is overstepped where the position is more than the tolerance below the highest in the usable cycles since the watch began, and the negative is its mirror; this is cause 14, fresh.";
     DifferenceAtBound: "cause 10 stands at the allowed difference itself", "10 position differs from the report by more than datum 26";
     DifferenceOneSided: "cause 10 looks only at a position above the report", "10 position differs from the report by more than datum 26";
     DifferenceScaled: "the difference from the report's position is scaled by the ratio", "W1: Positions aren't scaled.";
@@ -475,6 +625,7 @@ deviations! {
     HeadOfShorterOnly: "only the channel with the shorter list notes another head", "W1: The report carries the head too, and cause 12 also stands where heads differ.";
     HeadWithoutF: "cause 12 does not set F where heads alone differ", "W1: The report carries the head too, and cause 12 also stands where heads differ.";
     Heads67And69Alike: "cause 12 takes the heads 67 and 69 as alike", "W1: The report carries the head too, and cause 12 also stands where heads differ.";
+    Heads69And72Alike: "cause 12 takes the heads 69 and 72 as alike", "W1: The report carries the head too, and cause 12 also stands where heads differ.";
     OtherUnusableLeftOut: "causes 10 and 11 leave out an unusable report", "10 position differs from the report (the other's unusable report: compared as it is)";
     FTimeSetAnew: "each of 10, 11, 12 sets the count from F to B anew", "10, 11, 12 set F and, if F is new, its count to datum 34";
     FTimeSetAnewAt0: "a difference sets F's count anew once it is 0", "10, 11, 12 set F and, if F is new, its count to datum 34";
@@ -497,18 +648,22 @@ deviations! {
     ActiveSelectionOf51: "SBH and SG count as active only in a list of 51 data", "W2: in cycles where SBH or SG is effective";
     ActiveSelectionNotBesideNx: "SBH and SG do not count as active while n<nx is on", "W2: in cycles where SBH or SG is effective";
     ActiveSelectionNotBesideStops: "SBH and SG do not count as active while the external stops are on", "W2: in cycles where SBH or SG is effective";
+    ActiveSelectionNotBesideDirection: "SBH and SG do not count as active while safe direction is on", "W2: in cycles where SBH or SG is effective";
     ActiveWithoutSe: "SE does not count as active", "W2: or SE or cams are enabled";
     ActiveSe2Only: "SE counts as active only while SE2 is chosen", "W2: or SE or cams are enabled";
     ActiveSeOutside: "SE counts as active only where the position is outside", "W2: or SE or cams are enabled";
     ActiveSeNotBesideNx: "SE does not count as active while n<nx is on", "W2: or SE or cams are enabled";
     ActiveSeNotBesideStops: "SE does not count as active while the external stops are on", "W2: or SE or cams are enabled";
+    ActiveSeNotBesideDirection: "SE does not count as active while safe direction is on", "W2: or SE or cams are enabled";
     ActiveWithoutCams: "the cams do not count as active", "W2: or SE or cams are enabled";
     ActiveCamsAbove: "the cams count as active only above one of them", "W2: or SE or cams are enabled";
     ActiveCamsBelow: "the cams count as active only above none of them", "W2: or SE or cams are enabled";
     ActiveCamsNotBesideNx: "the cams do not count as active while n<nx is on", "W2: or SE or cams are enabled";
     ActiveCamsNotBesideStops: "the cams do not count as active while the external stops are on", "W2: or SE or cams are enabled";
+    ActiveCamsNotBesideDirection: "the cams do not count as active while safe direction is on", "W2: or SE or cams are enabled";
     ActiveByNx: "n<nx counts as active", "W2: A grinding shop enables n<nx alone";
     ActiveByExternalStops: "the external stops count as active", "W2: From now on cause 13 stands only in cycles where SBH or SG is effective, or SE or cams are enabled.";
+    ActiveByDirection: "safe direction counts as active", "W2: From now on cause 13 stands only in cycles where SBH or SG is effective, or SE or cams are enabled.";
     ActiveByStop: "a standing stop counts as active", "W2: From now on cause 13 stands only in cycles where SBH or SG is effective, or SE or cams are enabled.";
     ActiveInEither: "what is active in the other channel counts too", "W2: From now on cause 13 stands only in cycles where SBH or SG is effective, or SE or cams are enabled. (in this channel)";
     ActiveByReport: "cause 13 goes by what the report's input word selects", "W2: in cycles where SBH or SG is effective";
@@ -525,6 +680,7 @@ deviations! {
     Cause10NotFresh: "cause 10 is not fresh", "All but 13 are fresh.";
     Cause11NotFresh: "cause 11 is not fresh", "All but 13 are fresh.";
     Cause12NotFresh: "cause 12 is not fresh", "All but 13 are fresh.";
+    Cause14NotFresh: "cause 14 is not fresh", "W6: this is cause 14, fresh";
     Cause13Fresh: "cause 13 is fresh and holds an acknowledgement up", "All but 13 are fresh.";
 
     // Step 5.

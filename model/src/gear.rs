@@ -32,7 +32,8 @@ impl Ratio {
         };
         paper!(r, ratio,
             GearFromOne => if inputs & GEAR_BITS == 0 { Ratio::ONE } else { ratio },
-            RatioIs1At69 => if data.head() == 69 { Ratio::ONE } else { ratio })
+            RatioIs1At69 => if data.head() == 69 { Ratio::ONE } else { ratio },
+            RatioIs1At72 => if data.head() == 72 { Ratio::ONE } else { ratio })
     }
 
     /// A step's side of a comparison: the step times the numerator.

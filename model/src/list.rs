@@ -41,8 +41,10 @@ fn read_data<R: Reading>(r: R, words: &[u32]) -> Result<(MachineData, usize), Re
     let head = paper!(r, head,
         DataBehindHeadTaken => if head == 51 && goes_on(words, 51) { 67 } else { head },
         DataBehind67Taken => if head == 67 && goes_on(words, 67) { 69 } else { head },
+        DataBehind69Taken => if head == 69 && goes_on(words, 69) { 72 } else { head },
         ListMayEndAt51 => if goes_on(words, 51) { head } else { 51 },
-        ListMayEndAt67 => if head == 69 && !goes_on(words, 67) { 67 } else { head });
+        ListMayEndAt67 => if head == 69 && !goes_on(words, 67) { 67 } else { head },
+        ListMayEndAt69 => if head == 72 && !goes_on(words, 69) { 69 } else { head });
     paper!(r, (), StructureFirst => { structure(words, head)?; });
     let mut data = all_lacked();
     let mut places = [0; COUNT];
@@ -51,7 +53,7 @@ fn read_data<R: Reading>(r: R, words: &[u32]) -> Result<(MachineData, usize), Re
     for number in 0..head {
         place = paper!(r, place, RemarkInListPassedOver => behind_remarks(words, place));
         places[number] = place;
-        let (value, behind) = match datum(r, words, number, place) {
+        let (value, behind) = match datum(r, words, head, number, place) {
             Ok(read) => read,
             Err(fault) => paper!(r, return Err(fault),
             OpenGoesLast => {
@@ -73,13 +75,14 @@ fn read_data<R: Reading>(r: R, words: &[u32]) -> Result<(MachineData, usize), Re
                 if number == number::SE2_PLUS { ends_of(r, &data, &places, number::SE2_MINUS)? }
             },
             SeEndsBeforeRatios => if number == 50 { se_ends(r, &data, &places)? },
-            SeEndsBeforeNxData => if number == 66 { se_ends(r, &data, &places)? });
+            SeEndsBeforeNxData => if number == 66 { se_ends(r, &data, &places)? },
+            SeEndsBeforeDirectionData => if number == 68 { se_ends(r, &data, &places)? });
     }
     paper!(r, (),
         LackedNumeratorsAre0 => data[head.min(59)..59].fill(0),
         LackedDenominatorsAre0 => data[head.clamp(59, 67)..67].fill(0),
         LackedHysteresisIs1 => data[head.clamp(67, 68)..68].fill(1),
-        LackedFilterIs1 => data[head.max(68)..].fill(1));
+        LackedFilterIs1 => data[head.clamp(68, 69)..69].fill(1));
     if let Some(fault) = later {
         return Err(fault);
     }
@@ -101,6 +104,7 @@ fn head<R: Reading>(r: R, words: &[u32]) -> Result<usize, Refusal> {
 fn datum<R: Reading>(
     r: R,
     words: &[u32],
+    head: usize,
     number: usize,
     place: usize,
 ) -> Result<(i32, usize), Refusal> {
@@ -112,8 +116,13 @@ fn datum<R: Reading>(
         if arrived == Arrived::Open { no_piece(words, behind)? }
     });
     let value = resolve(r, arrived, number, place)?;
-    in_range(r, number, value, place)?;
-    Ok((value, behind))
+    let (low, high) = range_as(r, head, number);
+    if low <= value && value <= high {
+        return Ok((value, behind));
+    }
+    // "datum out of range | 4 | same"
+    paper!(r, refuse(4, place),
+        RangePlaceOfPiece => refuse(4, place + 1))
 }
 
 /// "forms 0 (two's complement), 1, 2 with 2, 2, 4 pieces. Form 3 is open: .. no pieces."
@@ -204,7 +213,8 @@ fn resolve<R: Reading>(
             OpenRatioIs1 => {
                 if (number::NUMERATOR..number::NX_HYSTERESIS).contains(&number) { Ok(1) } else { refuse(2, place) }
             },
-            OpenNxDatumIs0 => if number >= number::NX_HYSTERESIS { Ok(0) } else { refuse(2, place) },
+            OpenNxDatumIs0 => if matches!(number, 67 | 68) { Ok(0) } else { refuse(2, place) },
+            OpenDirectionDatumIsLowest => if number > 68 { Ok(lowest(number)) } else { refuse(2, place) },
             OpenPlaceBehind => refuse(2, place + 1))
         }
     };
@@ -222,17 +232,6 @@ fn whole_form<R: Reading>(r: R, bits: i32, place: usize) -> Result<i32, Refusal>
     paper!(r, Ok(bits),
         WholeSignAndMagnitude => Ok(if bits < 0 { -(bits & i32::MAX) } else { bits }),
         WholeBeyondIs3 => if u64::from(bits.unsigned_abs()) > whole::LARGEST { refuse(3, place) } else { Ok(bits) })
-}
-
-/// "datum out of range | 4 | same"
-#[inline]
-fn in_range<R: Reading>(r: R, number: usize, value: i32, place: usize) -> Result<(), Refusal> {
-    let (low, high) = range_as(r, number);
-    if low <= value && value <= high {
-        return Ok(());
-    }
-    paper!(r, refuse(4, place),
-        RangePlaceOfPiece => refuse(4, place + 1))
 }
 
 /// "then 5, SE1 first"
@@ -300,7 +299,7 @@ fn goes_on(words: &[u32], count: usize) -> bool {
 
 /// Whether a float lies outside the datum's range, whole or not.
 fn beyond(arrived: Arrived, number: usize) -> bool {
-    let (low, high) = crate::machine_data::range(number);
+    let (low, high) = crate::machine_data::range(COUNT, number);
     let float = match arrived {
         Arrived::Binary32(bits) => f64::from(f32::from_bits(bits)),
         Arrived::Binary64(bits) => f64::from_bits(bits),

@@ -1,16 +1,17 @@
 //! Machine data: "Each channel has its own list of 51 data, numbers 0 to 50."; W1: "Data 51 to 58
 //! are the numerators and 59 to 66 the denominators, each 1 to 1000; the list head then says 67.";
-//! W3: "Data 67 (0 to 1,000,000 mm/min) and 68 (0 to 1,000 cycles) are added."
+//! W3: "Data 67 (0 to 1,000,000 mm/min) and 68 (0 to 1,000 cycles) are added."; W6: "Data 69 to 71 are tolerance (0 to
+//! 100,000), delay (0 to 1,000) and stop (1 to 5)."
 
 use crate::deviation::{paper, Deviation, Deviation::*, Reading};
 use crate::list::{self, Refusal};
 
 /// The most data of a list.
-pub const COUNT: usize = 69;
+pub const COUNT: usize = 72;
 
 /// What a head may say: "51 data, numbers 0 to 50"; W1: "the list head then says 67", and "Data
 /// added by later tickets raise the head likewise"
-pub const HEADS: [usize; 3] = [51, 67, 69];
+pub const HEADS: [usize; 4] = [51, 67, 69, 72];
 
 /// What a datum is that a list lacks. W1: "A list headed 51 is read with every ratio 1 to 1"; of
 /// data added later "in a shorter list they count as 0"
@@ -82,9 +83,15 @@ pub mod number {
     pub const NX_HYSTERESIS: usize = 67;
     /// W3: "and 68 (0 to 1,000 cycles)": its filter
     pub const NX_FILTER: usize = 68;
+    /// W6: "Data 69 to 71 are tolerance", of safe direction
+    pub const DIRECTION_TOLERANCE: usize = 69;
+    /// W6: "delay"
+    pub const DIRECTION_DELAY: usize = 70;
+    /// W6: "and stop"
+    pub const DIRECTION_STOP: usize = 71;
 }
 
-/// "1 | functions; bit 0 SBH/SG, 1 SE, 2 cams, 3 n<nx, 4 external stops"
+/// "1 | functions; bit 0 SBH/SG, 1 SE, 2 cams, 3 n<nx, 4 external stops"; W6: "Function bit 5 enables it"
 #[derive(Clone, Copy, Debug, PartialEq, Eq)]
 pub enum Function {
     SbhSg = 0,
@@ -92,6 +99,7 @@ pub enum Function {
     Cams = 2,
     Nx = 3,
     ExternalStops = 4,
+    SafeDirection = 5,
 }
 
 /// The data of an accepted list: each lies in its range, and each SE minus below its plus.
@@ -110,7 +118,7 @@ impl MachineData {
             return refuse(1, 0);
         }
         for (number, &value) in data.iter().enumerate() {
-            let (low, high) = range(number);
+            let (low, high) = range(data.len(), number);
             if value < low || value > high {
                 return refuse(4, number);
             }
@@ -159,12 +167,13 @@ impl MachineData {
         &self.data[..self.head.min(COUNT)]
     }
 
-    /// "1 | functions; bit 0 SBH/SG, 1 SE, 2 cams, 3 n<nx, 4 external stops"
+    /// "1 | functions; bit 0 SBH/SG, 1 SE, 2 cams, 3 n<nx, 4 external stops"; W6: "Function bit 5 enables it"
     #[inline]
     pub fn has<R: Reading>(&self, r: R, function: Function) -> bool {
         let bit = paper!(r, function as u32,
-            FunctionsSeAndCamsSwapped => [0, 2, 1, 3, 4][function as usize],
-            FunctionsNxAndStopsSwapped => [0, 1, 2, 4, 3][function as usize]);
+            FunctionsSeAndCamsSwapped => [0, 2, 1, 3, 4, 5][function as usize],
+            FunctionsNxAndStopsSwapped => [0, 1, 2, 4, 3, 5][function as usize],
+            FunctionsStopsAndDirectionSwapped => [0, 1, 2, 3, 5, 4][function as usize]);
         self.data[number::FUNCTIONS] >> bit & 1 == 1
     }
 
@@ -178,17 +187,19 @@ impl MachineData {
 /// The value that a list without further word gives a datum.
 pub fn lowest(number: usize) -> i32 {
     match number {
-        number::SE1_PLUS | number::SE2_PLUS => range(number).1,
-        _ => range(number).0,
+        number::SE1_PLUS | number::SE2_PLUS => range(COUNT, number).1,
+        _ => range(COUNT, number).0,
     }
 }
 
-/// The column "Range" of the machine data.
+/// The column "Range" of the machine data, in a list of this head. W1: of data that a shorter list lacks "their functions
+/// are refused as out of range"; W6: "datum 1 may then be up to 63"
 #[inline]
-pub const fn range(number: usize) -> (i32, i32) {
+pub const fn range(head: usize, number: usize) -> (i32, i32) {
     match number {
         0 => (1, 25),
-        1 => (0, 31),
+        1 if head < HEADS[3] => (0, 31),
+        1 => (0, 63),
         2 => (0, 100_000),
         3..=6 => (1, 1_000_000),
         7..=10 => (1, 5),
@@ -206,15 +217,22 @@ pub const fn range(number: usize) -> (i32, i32) {
         51..=66 => (1, 1_000),
         67 => (0, 1_000_000),
         68 => (0, 1_000),
+        69 => (0, 100_000),
+        70 => (0, 1_000),
+        71 => (1, 5),
         _ => (0, 0),
     }
 }
 
 /// [`range`] by any reading: a deviation has one end of one row one off.
 #[inline]
-pub fn range_as<R: Reading>(r: R, number: usize) -> (i32, i32) {
-    let (low, high) = range(number);
-    let by = one_off(number).map(|deviation| i32::from(r.deviates(deviation)));
+pub fn range_as<R: Reading>(r: R, head: usize, number: usize) -> (i32, i32) {
+    let head = paper!(r, head,
+        FunctionsTo63At69 => if head == 69 { 72 } else { head },
+        FunctionsTo63AtAnyHead => 72,
+        FunctionsTo31At72 => 51);
+    let (low, high) = range(head, number);
+    let by = one_off(head, number).map(|deviation| i32::from(r.deviates(deviation)));
     let [low_wider, low_narrower, high_wider, high_narrower] = by;
     (
         low - low_wider + low_narrower,
@@ -224,8 +242,9 @@ pub fn range_as<R: Reading>(r: R, number: usize) -> (i32, i32) {
 
 /// Of deviations only: those of a row, its low end wider and narrower, its high end wider and narrower.
 #[rustfmt::skip]
-const fn one_off(number: usize) -> [Deviation; 4] {
+const fn one_off(head: usize, number: usize) -> [Deviation; 4] {
     match number {
+        1 if head == 72 => [FunctionsOf72LowWider, FunctionsOf72LowNarrower, FunctionsOf72HighWider, FunctionsOf72HighNarrower],
         0 => [TLowWider, TLowNarrower, THighWider, THighNarrower],
         1 => [FunctionsLowWider, FunctionsLowNarrower, FunctionsHighWider, FunctionsHighNarrower],
         2 => [StandstillLowWider, StandstillLowNarrower, StandstillHighWider, StandstillHighNarrower],
@@ -245,6 +264,9 @@ const fn one_off(number: usize) -> [Deviation; 4] {
         51..=58 => [NumeratorLowWider, NumeratorLowNarrower, NumeratorHighWider, NumeratorHighNarrower],
         59..=66 => [DenominatorLowWider, DenominatorLowNarrower, DenominatorHighWider, DenominatorHighNarrower],
         67 => [NxHysteresisLowWider, NxHysteresisLowNarrower, NxHysteresisHighWider, NxHysteresisHighNarrower],
-        _ => [NxFilterLowWider, NxFilterLowNarrower, NxFilterHighWider, NxFilterHighNarrower],
+        68 => [NxFilterLowWider, NxFilterLowNarrower, NxFilterHighWider, NxFilterHighNarrower],
+        69 => [DirectionToleranceLowWider, DirectionToleranceLowNarrower, DirectionToleranceHighWider, DirectionToleranceHighNarrower],
+        70 => [DirectionDelayLowWider, DirectionDelayLowNarrower, DirectionDelayHighWider, DirectionDelayHighNarrower],
+        _ => [DirectionStopLowWider, DirectionStopLowNarrower, DirectionStopHighWider, DirectionStopHighNarrower],
     }
 }

@@ -47,13 +47,18 @@ pub fn head_of<R: Reading>(r: R, word: u32) -> Option<usize> {
         HeadsBetweenTaken => other_head(word, |says| (52..67).contains(&says).then_some(says)),
         Head66Taken => other_head(word, |says| (says == 66).then_some(66)),
         Head68Taken => other_head(word, |says| (says == 68).then_some(68)),
-        HeadsAboveTaken => other_head(word, |says| (says > 69).then_some(69)),
+        Heads70And71Taken => other_head(word, |says| matches!(says, 70 | 71).then_some(says)),
+        HeadsAboveTaken => other_head(word, |says| (says > 72).then_some(72)),
         HeadInEightBits => other_head(word, |says| HEADS.into_iter().find(|&count| says & 0xff == count)),
         Head67Refused => says.filter(|&says| says != 67),
         Head67Of51Data => says.map(|says| if says == 67 { 51 } else { says }),
         Head69Refused => says.filter(|&says| says != 69),
-        Head69Of67Data => says.map(|says| says.min(67)),
-        Head69Of51Data => says.map(|says| if says == 69 { 51 } else { says }))
+        Head69Of67Data => says.map(|says| if says == 69 { 67 } else { says }),
+        Head69Of51Data => says.map(|says| if says == 69 { 51 } else { says }),
+        Head72Refused => says.filter(|&says| says != 72),
+        Head72Of69Data => says.map(|says| says.min(69)),
+        Head72Of67Data => says.map(|says| if says == 72 { 67 } else { says }),
+        Head72Of51Data => says.map(|says| if says == 72 { 51 } else { says }))
 }
 
 /// Of deviations only: what a head is taken for that is none.

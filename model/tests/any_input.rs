@@ -82,6 +82,7 @@ fn rank(channel: &Channel, code: u8) -> i32 {
         (2 | 9 | 13, _) => 4,
         (3, Selection::Sg { sg, .. }) => channel.data().get(number::SG_STOP + usize::from(sg)),
         (4, _) => channel.data().get(number::SE_STOP),
+        (14, _) => channel.data().get(number::DIRECTION_STOP),
         (6..=8, _) => 9 - i32::from(code),
         _ => 0,
     }
@@ -99,12 +100,14 @@ fn a_cycle_takes_any_numbers() {
         highest(""),
         highest(" of 67 data"),
         highest(" of 69 data"),
+        highest(" of 72 data"),
         data(&[(0, 25), (1, 31), (27, 3), (28, 2)]),
         data_of(67, &[(1, 31), (51, 1000), (59, 7), (53, 3), (61, 1000)]),
         data_of(
             69,
             &[(1, 31), (25, 600), (51, 1000), (59, 7), (67, 300), (68, 2)],
         ),
+        data_of(72, &[(1, 63), (69, 1000), (70, 1), (71, 2)]),
     ] {
         for deviation in [None]
             .into_iter()
@@ -119,7 +122,7 @@ fn a_cycle_takes_any_numbers() {
                     head: odd_number(&mut random) as u32 as usize,
                 };
                 let position = odd_number(&mut random);
-                let inputs = odd_number(&mut random) as u32 & random.next() as u32 & 0xf03c_171f;
+                let inputs = odd_number(&mut random) as u32 & random.next() as u32 & 0xf03c_771f;
                 let acknowledged = random.below(2) == 0;
                 let cycle = match deviation {
                     None => channel.cycle(position, inputs, acknowledged, report),
@@ -131,7 +134,7 @@ fn a_cycle_takes_any_numbers() {
                     let codes: Vec<u8> = cycle.causes.codes().collect();
                     let place = |code: u8| (Reverse(rank(&channel, code)), code);
                     assert!(codes.is_sorted_by(|&one, &next| place(one) < place(next)));
-                    assert!(codes.iter().all(|code| (1..=13).contains(code)));
+                    assert!(codes.iter().all(|code| (1..=14).contains(code)));
                     assert_eq!(cycle.word & 0xe046_007a, 0, "{:08x}", cycle.word);
                     let device = device::word(cycle.word, random.next() as u32);
                     assert!((device >> 1) >= (cycle.word >> 24 & 7) && device <= 0xa);

@@ -126,14 +126,25 @@ fn calls(seed: u64) -> Option<(Channel, Vec<Seen>)> {
         let previous = working.previous().unwrap_or(0);
         for _ in 0..random.below(20) {
             let position = previous + random.below(40) as i32 - 20;
-            let inputs = [2, 0, 0x003c_0002, 0x103c_000a, 1, 4, 0x102, 0x50a];
-            let inputs = inputs[random.below(8) as usize];
+            let inputs = [
+                2,
+                0,
+                0x003c_0002,
+                0x103c_000a,
+                1,
+                4,
+                0x102,
+                0x50a,
+                0x4002,
+                0x2002,
+            ];
+            let inputs = inputs[random.below(10) as usize];
             let report = match random.below(3) {
                 0 => Report {
                     position: random.next() as i32,
                     inputs: random.next() as u32,
                     datum: 0,
-                    head: [51, 67, 69, 0][random.below(4) as usize],
+                    head: [51, 67, 69, 72, 0][random.below(5) as usize],
                 },
                 _ => working.report(position, inputs),
             };
@@ -163,8 +174,8 @@ fn until_cleared(seen: &[Seen], n: usize, from: usize, claim: impl Fn(&Seen) -> 
 
 #[test]
 fn the_bounds_hold_over_random_calls() {
-    let (mut looked_at, mut without) = ([0_u64; 7], 0_u64);
-    for seed in 0..3_000 {
+    let (mut looked_at, mut without) = ([0_u64; 8], 0_u64);
+    for seed in 0..4_000 {
         let Some((channel, seen)) = calls(seed) else {
             continue;
         };
@@ -184,6 +195,11 @@ fn the_bounds_hold_over_random_calls() {
                     looked_at[0] += 1;
                     assert!(cycle.device_rank() >= rank);
                 }
+            }
+            // W6: "joins 2, 3 and 4 as a limit of demand 3"
+            if cycle.stands(14) {
+                looked_at[7] += 1;
+                assert!(cycle.device_rank() >= data.get(71) as u32);
             }
             // "if C, D or E with time t is entered in n"
             if let Some(rank @ 1..=3) = cycle.entered.filter(|_| !cycle.clears) {

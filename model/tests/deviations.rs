@@ -1,5 +1,6 @@
 //! Every deviation is told from document 01 by some random kit.
 
+mod common;
 use model::{listing, random, Deviant, Deviation};
 
 const KITS: u64 = 20_000;
@@ -53,9 +54,11 @@ fn there_are_at_least_100_and_each_has_its_words() {
 fn no_two_deviations_are_alike() {
     use std::collections::HashMap;
     use std::hash::{DefaultHasher, Hash, Hasher};
-    let all: Vec<Vec<u8>> = (0..6_000).map(random::kit).collect();
+    let chosen = common::kits().into_iter().map(|kit| kit.bytes);
+    let all: Vec<Vec<u8>> = (0..6_000).map(random::kit).chain(chosen).collect();
     let (small, mut large): (Vec<_>, Vec<_>) = all.into_iter().partition(|kit| kit.len() < 8_000);
-    large.truncate(60);
+    // Those of the long delays and filters stand last.
+    large.drain(60..large.len() - 60);
     let turned = small[0]
         .chunks_exact(4)
         .flat_map(|word| word.iter().rev().copied())

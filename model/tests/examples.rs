@@ -15,9 +15,21 @@ use std::process::{Command, Output};
 use std::sync::LazyLock;
 
 const RANKS: [&str; 6] = ["NONE", "E", "D", "C", "B", "A"];
-const CAUSES: [&str; 13] = [
-    "UNUSABLE", "SBH", "SG", "SE", "STOP-A", "STOP-C", "STOP-D", "STOP-E", "HOLD", "POSITION",
-    "INPUTS", "DATUM", "F",
+const CAUSES: [&str; 14] = [
+    "UNUSABLE",
+    "SBH",
+    "SG",
+    "SE",
+    "STOP-A",
+    "STOP-C",
+    "STOP-D",
+    "STOP-E",
+    "HOLD",
+    "POSITION",
+    "INPUTS",
+    "DATUM",
+    "F",
+    "DIRECTION",
 ];
 
 /// A file of the test's own, for one of its cases.

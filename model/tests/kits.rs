@@ -90,6 +90,8 @@ fn shown_text_says_how_many_data() {
         "list A of 69 data, else lowest\n  3 = 2000\n  4 = 7\n  5 = 8\n  68 = 9\nlist B of 67 data, else as A\n  3 = 1\n",
         "list A of 69 data, else lowest, head 0x10000043\n  0 = 12\nlist B of 69 data, else lowest, no head\n",
         "list A of 69 data, else lowest\n  66 = 1\n  cut\nlist B, else lowest\n  0 = 9\n",
+        "lists A and B of 72 data, else lowest\n  1 = 32\n  69 = 10\n  71 = 5\nlog\nboth 0 SBH positive-only\nboth 1 off SE2 both-ways no-stop\nboth 2 SG1 negative-only\nboth 2 SG1\n",
+        "list A of 72 data, else lowest, head 0x10000045\n  0 = 12\nlist B of 69 data, else lowest\n  3 = 7\n",
     ] {
         assert_eq!(both_ways(&bytes(text)), text);
     }
@@ -152,9 +154,9 @@ fn faults_come_with_line_and_reason() {
             "'69' is not a datum's number from 0 to 68",
         ),
         (
-            "list A of 70 data",
+            "list A of 73 data",
             1,
-            "'70' is not a number of data from 1 to 69",
+            "'73' is not a number of data from 1 to 72",
         ),
         ("list A of 67 words", 1, "'data' is wanted, not 'words'"),
         ("list A of data", 1, "'data' is not a number of data"),
@@ -242,6 +244,11 @@ fn faults_come_with_line_and_reason() {
             "the override is given twice",
         ),
         ("both 5 SBH no-stop stop-A", 1, "stand together"),
+        (
+            "both 5 SBH positive-only both-ways",
+            1,
+            "the direction is given twice",
+        ),
         ("both 5 bit 32", 1, "'32' is not a bit number from 0 to 31"),
         ("both 5 SBH times 65537", 1, "is not a number of times"),
         ("both 5 SBH ack ack", 1, "'ack' is surplus"),

@@ -6,6 +6,7 @@ mod common;
 use common::{beside, bytes, data, data_of};
 use model::channel::image::{self, Image, Lent};
 use model::channel::{self, Report};
+use model::direction::DIRECTION_BITS;
 use model::gear::GEAR_BITS;
 use model::machine_data::{number, COUNT, HEADS};
 use model::proved::{self, archive, Channel};
@@ -38,6 +39,15 @@ fn facts() -> String {
         format!("MONITOR_DATUM_DENOMINATOR == {}", number::DENOMINATOR),
         format!("MONITOR_DATUM_NX_HYSTERESIS == {}", number::NX_HYSTERESIS),
         format!("MONITOR_DATUM_NX_FILTER == {}", number::NX_FILTER),
+        format!(
+            "MONITOR_DATUM_DIRECTION_TOLERANCE == {}",
+            number::DIRECTION_TOLERANCE
+        ),
+        format!(
+            "MONITOR_DATUM_DIRECTION_DELAY == {}",
+            number::DIRECTION_DELAY
+        ),
+        format!("MONITOR_DATUM_DIRECTION_STOP == {}", number::DIRECTION_STOP),
         "MONITOR_REPORT == 4 && MONITOR_REPORT_HEAD == 3".into(),
         format!("MONITOR_STATE == {}", image::WORDS),
         format!("MONITOR_CODES == {}", causes::Causes::MOST),
@@ -45,6 +55,7 @@ fn facts() -> String {
         format!("MONITOR_KIT == {}", listing::LARGEST),
         format!("MONITOR_IN_BITS == {}u", channel::INPUT_BITS),
         format!("MONITOR_IN_GEAR == {GEAR_BITS}u"),
+        format!("(MONITOR_IN_POSITIVE_OFF | MONITOR_IN_NEGATIVE_OFF) == {DIRECTION_BITS}u"),
         format!("sizeof(monitor_channel) == {}", size_of::<Channel>()),
     ];
     let states = image::NAMES.iter().enumerate();
@@ -690,6 +701,9 @@ fn a_report_of_another_head() {
         (69, 67),
         (69, 68),
         (69, 51),
+        (69, 72),
+        (72, 69),
+        (72, 71),
         (51, 0),
         (67, 1 << 31),
         (51, 307),
@@ -718,8 +732,8 @@ fn ratios_and_counts_of_any_content() {
     ));
     for ratio in [0, -1, 1, 500, 1000, 1001, 5000, i32::MIN, i32::MAX] {
         for other in [0, 1, 7, 1000, 5000] {
-            for count in [0, 1, 50, 51, 52, 66, 67, 68, 69, 70, 300, u32::MAX] {
-                for k in [0, 50, 51, 65, 66, 67, 68, 69, 254, 255, 256] {
+            for count in [0, 1, 50, 51, 52, 66, 67, 68, 69, 70, 72, 73, 300, u32::MAX] {
+                for k in [0, 50, 51, 65, 66, 67, 68, 69, 71, 72, 254, 255, 256] {
                     let (mut data, mut state) = (fresh.proved.data, fresh.proved.state);
                     (data[53], data[61]) = (ratio, other);
                     state[image::word::COUNT] = count;
@@ -803,5 +817,77 @@ fn value_and_run_of_nx() {
             let usable = inputs == 1;
             assert_eq!(word & 1 << 21, u32::from(usable) * shown(value));
         }
+    }
+}
+
+/// What no list brings: tolerance, delay and stop outside their ranges, any functions beside any count, and any words of a
+/// direction.
+#[test]
+fn directions_of_any_content() {
+    let fresh = Pair::fresh(data_of(COUNT, &[(0, 12), (1, 32)]));
+    let any = [0, -1, 1, 10, 1000, 1001, 100_001, i32::MIN, i32::MAX];
+    for (at, tolerance) in any.into_iter().enumerate() {
+        for (by, delay) in any.into_iter().enumerate() {
+            let stop = any[(at + by) % any.len()];
+            for (functions, count) in [(32, 72), (63, 51), (64, 72), (31, 72), (-1, 72), (32, 0)] {
+                for run in [0, 1, 999, 1000, 1001, 1002, u32::MAX] {
+                    for (watch, extreme) in
+                        [(0, 9), (1, 0), (2, 1 << 31), (1 << 31, i32::MAX as u32)]
+                    {
+                        let (mut data, mut state) = (fresh.proved.data, fresh.proved.state);
+                        data[number::FUNCTIONS] = functions;
+                        data[number::DIRECTION_TOLERANCE] = tolerance;
+                        data[number::DIRECTION_DELAY] = delay;
+                        data[number::DIRECTION_STOP] = stop;
+                        state[image::word::COUNT] = count;
+                        state[image::word::POSITIVE_RUN] = run;
+                        state[image::word::POSITIVE_WATCH] = watch;
+                        state[image::word::POSITIVE_EXTREME] = extreme;
+                        state[image::word::NEGATIVE_RUN] = run.wrapping_add(1);
+                        state[image::word::NEGATIVE_WATCH] = watch.rotate_left(1);
+                        state[image::word::NEGATIVE_EXTREME] = !extreme;
+                        let mut pair = Pair {
+                            model: Lent::of(data, state),
+                            proved: Channel { data, state },
+                        };
+                        // Unusable, neither way, one, the other, both.
+                        for (position, inputs) in
+                            [(5, 5), (5, 1), (-6, 0x4001), (9, 0x2001), (0, 0x6001)]
+                        {
+                            let report = pair.report(position, inputs);
+                            pair.cycle(position, inputs, report);
+                        }
+                    }
+                }
+            }
+        }
+    }
+}
+
+/// The six words of safe direction, over cycles of every kind.
+#[test]
+fn runs_watches_and_extremes() {
+    let stated = [(0, 12), (1, 32), (69, 10), (70, 1), (71, 1)];
+    let mut channel = Pair::fresh(data_of(COUNT, &stated));
+    for (position, inputs, words, codes) in [
+        (5, 1, [1, 0, 0, 1, 0, 0], &[][..]),
+        (-3, 0x4001, [2, 1, -3, 0, 0, 0], &[]),
+        (900, 0x6005, [2, 1, -3, 0, 0, 0], &[1]),
+        (-13, 1, [3, 1, -3, 1, 0, 0], &[]),
+        (-14, 1, [4, 1, -3, 2, 1, -14], &[14]),
+        (7, 1, [5, 1, 7, 3, 1, -14], &[14]),
+        (7, 0x2001, [0, 0, 0, 4, 1, -14], &[14]),
+        (7, 0x6001, [0, 0, 0, 0, 0, 0], &[]),
+    ] {
+        let report = channel.report(position, inputs);
+        assert_eq!(
+            channel.cycle(position, inputs, report).1,
+            codes,
+            "{position}"
+        );
+        let state = channel.proved.state;
+        let first = image::word::POSITIVE_RUN;
+        let found = [0, 1, 2, 3, 4, 5].map(|place| state[first + place] as i32);
+        assert_eq!(found, words, "{position} {inputs}");
     }
 }

@@ -441,16 +441,33 @@ fn gear_bits_go_by_the_head_alone() {
 }
 
 #[test]
-fn heads_are_51_67_and_69() {
+fn heads_are_51_67_69_and_72() {
     row(
         "list A of 60 data; list B",
         "refused 1 0 A",
         &[HeadsBetweenTaken],
     );
     row(
-        "list A of 69 data, head 0x10000046; list B",
+        "list A of 72 data, head 0x10000049; list B",
         "refused 1 0 A",
         &[HeadsAboveTaken],
+    );
+    for count in [70, 71] {
+        row(
+            &format!("list A of {count} data; list B"),
+            "refused 1 0 A",
+            &[Heads70And71Taken],
+        );
+    }
+    row(
+        "list A of 69 data, head 0x10000048; list B",
+        "refused 1 208 A",
+        &[Head72Refused, ListMayEndAt69],
+    );
+    row(
+        "list A of 72 data, head 0x10000045; list B",
+        "refused 1 0 B",
+        &[DataBehind69Taken],
     );
     row("list A of 68 data; list B", "refused 1 0 A", &[Head68Taken]);
     row(
@@ -814,6 +831,205 @@ fn the_run_of_nx_is_counted_up_to_1001_whatever_the_filter() {
             channel.cycle(0, 1, false, report);
             assert_eq!(channel.nx().run, cycle.min(1_001));
             assert_eq!(channel.nx().value, cycle > i64::from(filter));
+        }
+    }
+}
+
+/// Lists with tolerance 10, delay 2 and stop E of safe direction, which is the one function that is on.
+const DIRECTION: &str =
+    "lists A and B of 72 data; 0 = 12; 1 = 32; 2 = 100000; 69 = 10; 70 = 2; 71 = 1; log";
+
+#[test]
+fn functions_go_by_the_head() {
+    for (of, most, narrower) in [
+        ("", 31, FunctionsHighNarrower),
+        (" of 67 data", 31, FunctionsHighNarrower),
+        (" of 69 data", 31, FunctionsHighNarrower),
+        (" of 72 data", 63, FunctionsOf72HighNarrower),
+    ] {
+        row(&format!("lists A and B{of}; 1 = {most}"), "", &[narrower]);
+        row(
+            &format!("list A{of}; 1 = {}; list B", most + 1),
+            "refused 4 4 A",
+            &[],
+        );
+    }
+    row(
+        "list A of 69 data; 1 = 63; list B",
+        "refused 4 4 A",
+        &[FunctionsTo63At69, FunctionsTo63AtAnyHead],
+    );
+    row("lists A and B of 72 data; 1 = 32", "", &[FunctionsTo31At72]);
+}
+
+#[test]
+fn the_present_cycle_counts_in_the_run_of_a_direction() {
+    row(
+        &format!("{DIRECTION}; both 0 off positive-only times 2; both -50 off positive-only; both -61 off positive-only"),
+        "1 00000080 00000080 1
+         2 00000080 00000080 1
+         3 00000080 00000080 1
+         4 09000080 09000080 3",
+        &[
+            DirectionDelayAtLeast,
+            DirectionDelayOneMore,
+            DirectionDelayIgnored,
+            DirectionRunFresh1,
+            DirectionWaitsForPrevious,
+            DirectionExtremeFromBit0,
+            DirectionExtremeFromCycleBefore,
+        ],
+    );
+}
+
+#[test]
+fn an_unusable_cycle_leaves_runs_watches_and_extremes() {
+    row(
+        &format!("{DIRECTION}; both 0 off; both 0 off bit 2; both 0 off ack; both -50 off; both 500 off both-ways bit 2; both -60 off ack; both -61 off"),
+        "1 00000080 00000080 1
+         2 05000084 05000084 a
+         3 00000080 00000080 1
+         4 00000080 00000080 1
+         5 05000084 05000084 a
+         6 00000080 00000080 1
+         7 09000080 09000080 3",
+        &[
+            UnusableEndsDirectionRun,
+            UnusableTakesFromDirectionRun,
+            UnusableEndsWatch,
+            UnusableEndsWatchByBit,
+            UnusableDirectionAsFresh,
+            UnusableLosesExtreme,
+            UnusableTakenIntoExtreme,
+        ],
+    );
+    row(
+        &format!("{DIRECTION}; both 0 off; both 0 off bit 2; both -50 off ack; both -100 off ack; both -100 off"),
+        "1 00000080 00000080 1
+         2 05000084 05000084 a
+         3 00000080 00000080 1
+         4 00000080 00000080 1
+         5 00000080 00000080 1",
+        &[UnusableCountsInDirectionRun],
+    );
+}
+
+#[test]
+fn an_acknowledgement_leaves_runs_watches_and_extremes() {
+    row(
+        &format!("{DIRECTION}; both 0 off positive-only ack times 3; both -10 off positive-only ack; both -11 off positive-only ack"),
+        "1 00000080 00000080 1
+         2 00000080 00000080 1
+         3 00000080 00000080 1
+         4 00000080 00000080 1
+         5 09000080 09000080 3",
+        &[
+            AcknowledgementEndsWatch,
+            AcknowledgementSetsExtreme,
+            ClearEndsDirectionRun,
+            ClearEndsWatch,
+            ClearSetsExtreme,
+            Cause14NotFresh,
+            AcknowledgementWins,
+        ],
+    );
+}
+
+#[test]
+fn each_direction_has_its_own_run_watch_and_extreme() {
+    row(
+        &format!("{DIRECTION}; both 0 off positive-only times 3; both 50 off; both 60 off; both 55 off; both 65 off; both 54 off"),
+        "1 00000080 00000080 1
+         2 00000080 00000080 1
+         3 00000080 00000080 1
+         4 00000080 00000080 1
+         5 00000080 00000080 1
+         6 00000080 00000080 1
+         7 00000080 00000080 1
+         8 09000080 09000080 3",
+        &[
+            DirectionRunShared,
+            DirectionWatchShared,
+            DirectionExtremeShared,
+            DirectionEitherForbidsBoth,
+        ],
+    );
+}
+
+#[test]
+fn bits_13_and_14_go_by_function_5() {
+    row(
+        "lists A and B of 72 data; 1 = 0; log; both 0 off; both 0 off bit 13",
+        "1 00000080 00000080 1
+         2 05000084 05000084 a",
+        &[DirectionBitsFreeAt72, DirectionBitsFree],
+    );
+    row(
+        "lists A and B of 72 data; 1 = 32; log; both 0 off both-ways",
+        "1 00000080 00000080 1",
+        &[
+            DirectionBitsUnusable,
+            DirectionBit13Unusable,
+            DirectionBit14Unusable,
+        ],
+    );
+}
+
+#[test]
+fn none_begins_with_function_5_off() {
+    for (functions, run, watch) in [(0, 0, None), (31, 0, None), (32, 2, Some(3))] {
+        let mut channel = Channel::fresh(data_of(72, &[(1, functions), (70, 1)]));
+        for position in [5, 3] {
+            let report = channel.report(position, 1);
+            channel.cycle(position, 1, false, report);
+        }
+        let directions = channel.directions();
+        for watched in [directions.positive, directions.negative] {
+            assert_eq!((watched.run, watched.watch), (run, watch));
+        }
+    }
+}
+
+#[test]
+fn the_run_of_a_direction_is_counted_up_to_1001_whatever_the_delay() {
+    for delay in [0, 2, 1000] {
+        let mut channel = Channel::fresh(data_of(72, &[(1, 32), (70, delay)]));
+        for cycle in 1..=1_010 {
+            let report = channel.report(0, 1);
+            channel.cycle(0, 1, false, report);
+            let positive = channel.directions().positive;
+            assert_eq!(positive.run, cycle.min(1_001));
+            assert_eq!(positive.watch.is_some(), cycle > i64::from(delay));
+        }
+    }
+}
+
+#[test]
+fn code_14_stands_once_and_by_the_rank_of_datum_71() {
+    for (stop, wanted) in [
+        (1, [5, 3, 13, 6, 7, 4, 8, 14, 10]),
+        (2, [5, 3, 13, 6, 7, 14, 4, 8, 10]),
+        (3, [5, 3, 13, 6, 14, 7, 4, 8, 10]),
+        (4, [5, 3, 13, 14, 6, 7, 4, 8, 10]),
+        (5, [5, 14, 3, 13, 6, 7, 4, 8, 10]),
+    ] {
+        let stated = [
+            (1, 63),
+            (7, 4),
+            (11, 100),
+            (12, 101),
+            (15, 1),
+            (26, 1),
+            (71, stop),
+        ];
+        let mut channel = Channel::fresh(data_of(72, &stated));
+        for position in [0, 20, 10] {
+            let mut report = channel.report(position, 2);
+            report.position = 1000;
+            let cycle = channel.cycle(position, 2, false, report);
+            if position == 10 {
+                assert_eq!(codes(&cycle), wanted, "{stop}");
+            }
         }
     }
 }

@@ -129,13 +129,14 @@ fn numbers_2_3_4_at_the_datums_own_place() {
 
 #[test]
 fn every_range_end_is_taken_and_one_beyond_is_not() {
-    for number in 0..69 {
+    for number in 0..72 {
         let of = match number {
             0..51 => "",
             51..67 => " of 67 data",
-            _ => " of 69 data",
+            67..69 => " of 69 data",
+            _ => " of 72 data",
         };
-        let (low, high) = model::machine_data::range(number);
+        let (low, high) = model::machine_data::range(51, number);
         for value in [low, high] {
             let other_end = match number {
                 11 | 13 if value == high => continue,

@@ -120,6 +120,9 @@ impl<const N: u32> Board for Wrong<N> {
             // Value or run of n<nx stay under a new list.
             54 if answer.is_ok() => set(channel, word::NX, before.state()[word::NX]),
             55 if answer.is_ok() => set(channel, word::NX_RUN, before.state()[word::NX_RUN]),
+            // Runs, or watches with their extremes, of safe direction stay under a new list.
+            140 if answer.is_ok() => keep(channel, before.state(), &RUNS),
+            141 if answer.is_ok() => keep(channel, before.state(), &WATCHES),
             _ => (),
         }
         answer
@@ -134,8 +137,9 @@ impl<const N: u32> Board for Wrong<N> {
             5 => report[0] = ((report[0] << 4) as i32 >> 4) as u32,
             // The head is always 51.
             41 => report[3] = 51,
-            // A list of 69 data reports 67.
-            56 => report[3] = report[3].min(67),
+            // A list of 69 data, or of 72, reports less.
+            56 if report[3] == 69 => report[3] = 67,
+            139 => report[3] = report[3].min(69),
             _ => (),
         }
         report
@@ -209,7 +213,33 @@ impl<const N: u32> Board for Wrong<N> {
             by_what_is_active::<N>(channel, &old, &mut cycle);
         }
         by_nx::<N>(channel, &old, unusable);
-        if let 0 | 77..=138 = N {
+        by_direction::<N>(channel, &old, unusable, inputs, position);
+        let off = !unusable && channel.data()[1] & 32 == 0;
+        let head = channel.channel().data().head();
+        match N {
+            // 14 is left out: beside another cause, under STOP A, acknowledged; or listed for each direction; or beside 1.
+            142 if stand > 1 => leave_code_out(&mut cycle, 14),
+            143 if old[word::STOP] == 3 => leave_code_out(&mut cycle, 14),
+            144 if acknowledged != 0 => leave_code_out(&mut cycle, 14),
+            145 if both_overstepped(channel, position) => list_code(&mut cycle, 14),
+            146 if unusable && is_overstepped(channel, position) => list_code(&mut cycle, 14),
+            // It stands by a watch with the function off; in a list of 72 data, in a shorter one.
+            218 if off && is_overstepped(channel, position) => list_code(&mut cycle, 14),
+            219 if off && head == 72 && is_overstepped(channel, position) => {
+                list_code(&mut cycle, 14)
+            }
+            220 if off && head < 72 && is_overstepped(channel, position) => {
+                list_code(&mut cycle, 14)
+            }
+            221 if off && behind(channel, position)[1] > channel.data()[69].into() => {
+                list_code(&mut cycle, 14)
+            }
+            // It has another's number: 3, 4.
+            147 => other_code(&mut cycle, 14, 3),
+            148 => other_code(&mut cycle, 14, 4),
+            _ => (),
+        }
+        if let 0 | 77..=138 | 149..=161 = N {
             let seen = Seen::of(channel, &old, inputs, acknowledged, &cycle);
             cycle.codes = in_order::<N>(&seen);
         }
@@ -249,6 +279,9 @@ impl<const N: u32> Board for Wrong<N> {
             37 => (renew(a), renew(b)),
             38 => (set(a, word::HAS_PREVIOUS, 0), set(b, word::HAS_PREVIOUS, 0)),
             39 => (set(b, word::K, a.state()[word::K]), ()),
+            // It forgets the runs or the watches of safe direction.
+            162 => (clear(a, &RUNS), clear(b, &RUNS)),
+            163 => (clear(a, &WATCHES), clear(b, &WATCHES)),
             // It forgets value or run of n<nx.
             57 => (set(a, word::NX, 0), set(b, word::NX, 0)),
             58 => (set(a, word::NX_RUN, 0), set(b, word::NX_RUN, 0)),
@@ -257,7 +290,15 @@ impl<const N: u32> Board for Wrong<N> {
         let answer = Model::log(a, b, words, output);
         let refusal = |number, place| Err(Refusal { number, place });
         match (N, answer) {
-            (37..=39 | 57 | 58, Err(_)) => (*a, *b) = before,
+            (37..=39 | 57 | 58 | 162 | 163, Err(_)) => (*a, *b) = before,
+            (164 | 165 | 211..=216, Ok(cycles)) => {
+                by_direction_in_log::<N>(a, &before.0, cycles);
+                by_direction_in_log::<N>(b, &before.1, cycles);
+            }
+            // Words of a log with the function off in A have the rank of cause 14.
+            (217, Ok(1..)) if a.data()[1] & 32 == 0 && is_overstepped(a, last_of(a)) => {
+                output[0] |= 1 << 24
+            }
             // Cycles wanted, not words.
             (16, Err(Refusal { number: 7, place })) => return refusal(7, place / 3),
             // Words lacking.
@@ -380,6 +421,241 @@ fn by_nx<const N: u32>(channel: &mut Lent, old: &[u32], unusable: bool) {
     }
 }
 
+/// The words of safe direction: its runs, and its watches with their extremes.
+const RUNS: [usize; 2] = [word::POSITIVE_RUN, word::NEGATIVE_RUN];
+const WATCHES: [usize; 4] = [
+    word::POSITIVE_WATCH,
+    word::POSITIVE_EXTREME,
+    word::NEGATIVE_WATCH,
+    word::NEGATIVE_EXTREME,
+];
+
+/// Puts these words back to what they were.
+fn keep(channel: &mut Lent, old: &[u32], words: &[usize]) {
+    for &word in words {
+        set(channel, word, old[word]);
+    }
+}
+
+/// Puts these words to 0.
+fn clear(channel: &mut Lent, words: &[usize]) {
+    for &word in words {
+        set(channel, word, 0);
+    }
+}
+
+/// Writes the watches' words as 0 or 1.
+fn write_watches(channel: &mut Lent) {
+    for watch in [word::POSITIVE_WATCH, word::NEGATIVE_WATCH] {
+        set(channel, watch, channel.state()[watch].min(1));
+    }
+}
+
+/// Writes 0 for the extreme of no watch.
+fn write_extremes(channel: &mut Lent) {
+    for watch in [word::POSITIVE_WATCH, word::NEGATIVE_WATCH] {
+        if channel.state()[watch] == 0 {
+            set(channel, watch + 1, 0);
+        }
+    }
+}
+
+/// Takes a position into the extremes of the watches.
+fn take_in(channel: &mut Lent, position: i32) {
+    let farther: [fn(i32, i32) -> i32; 2] = [i32::max, i32::min];
+    let extremes = [word::POSITIVE_EXTREME, word::NEGATIVE_EXTREME];
+    for (extreme, farther) in extremes.into_iter().zip(farther) {
+        if channel.state()[extreme - 1] != 0 {
+            let was = channel.state()[extreme] as i32;
+            set(channel, extreme, farther(was, position) as u32);
+        }
+    }
+}
+
+/// Cuts the runs to 1,001.
+fn cut_runs(channel: &mut Lent) {
+    for run in RUNS {
+        set(channel, run, channel.state()[run].min(1_001));
+    }
+}
+
+/// Wrong boards by what an accepted log leaves of safe direction.
+fn by_direction_in_log<const N: u32>(channel: &mut Lent, before: &Lent, cycles: usize) {
+    let off = channel.data()[1] & 32 == 0;
+    let old = before.state();
+    let as_before = channel.channel().directions() == before.channel().directions();
+    match N {
+        // With the function off the words are left as they are, or runs or watches end, or runs are cut.
+        211 if off => keep(channel, old, &WATCHES),
+        212 if off => clear(channel, &RUNS),
+        213 if off => clear(channel, &WATCHES),
+        214 if off => cut_runs(channel),
+        // They are left where the log changed nothing by its cycles; with the function on.
+        215 if as_before && cycles > 0 => keep(channel, old, &WATCHES),
+        216 if as_before && cycles > 0 && !off => keep(channel, old, &WATCHES),
+        // A log without a cycle leaves them, or cuts a run.
+        164 if cycles == 0 => keep(channel, old, &WATCHES),
+        165 if cycles == 0 => cut_runs(channel),
+        _ => (),
+    }
+}
+
+/// How far a position lies behind the extreme of each watch, 0 where there is none.
+fn behind(channel: &Lent, position: i32) -> [i64; 2] {
+    let state = channel.state();
+    let distance = |watch: usize| {
+        let extreme = i64::from(state[watch + 1] as i32);
+        i64::from(state[watch] != 0) * (extreme - i64::from(position))
+    };
+    [
+        distance(word::POSITIVE_WATCH),
+        -distance(word::NEGATIVE_WATCH),
+    ]
+}
+
+fn is_overstepped(channel: &Lent, position: i32) -> bool {
+    let tolerance = channel.data()[69].into();
+    let mut behind = behind(channel, position).into_iter();
+    behind.any(|behind| behind > tolerance)
+}
+
+/// The position of the last cycle, 0 if it was unusable.
+fn last_of(channel: &Lent) -> i32 {
+    channel.channel().previous().unwrap_or(0)
+}
+
+fn both_overstepped(channel: &Lent, position: i32) -> bool {
+    let tolerance = channel.data()[69].into();
+    let mut behind = behind(channel, position).into_iter();
+    behind.all(|behind| behind > tolerance)
+}
+
+/// Gives a code another number.
+fn other_code(cycle: &mut Cycle, code: u8, other: u8) {
+    if let Some(place) = cycle.codes.iter_mut().find(|place| **place == code) {
+        *place = other;
+    }
+}
+
+/// Wrong boards by what is kept of safe direction and no word shows at once.
+fn by_direction<const N: u32>(
+    channel: &mut Lent,
+    old: &[u32],
+    unusable: bool,
+    inputs: u32,
+    position: i32,
+) {
+    let on = channel.data()[1] & 32 != 0;
+    let head = channel.channel().data().head();
+    let delay = channel.data()[70] as u32;
+    let directions = [(word::POSITIVE_RUN, 13), (word::NEGATIVE_RUN, 14)];
+    if !on && !unusable {
+        match N {
+            // With the function off runs, or watches, end; in a list of 72 data, in a shorter one.
+            166 => clear(channel, &RUNS),
+            167 => clear(channel, &WATCHES),
+            168 if head < 72 => clear(channel, &RUNS),
+            169 if head == 51 => clear(channel, &WATCHES),
+            170 if head == 72 => clear(channel, &WATCHES),
+            // A watch is written as 0 or 1, or the extreme of none as 0; in a shorter list.
+            199 => write_watches(channel),
+            200 => write_extremes(channel),
+            201 if head < 72 => write_watches(channel),
+            202 if head < 72 => write_extremes(channel),
+            // A watch takes the position in, or a run is cut.
+            203 => take_in(channel, position),
+            204 => cut_runs(channel),
+            _ => (),
+        }
+    }
+    if unusable {
+        match N {
+            // An unusable cycle writes them; with the function on, or off.
+            205 => write_watches(channel),
+            206 => write_extremes(channel),
+            207 if on => write_watches(channel),
+            208 if on => write_extremes(channel),
+            209 if !on => write_watches(channel),
+            210 if !on => write_extremes(channel),
+            _ => (),
+        }
+    }
+    if !on && unusable {
+        match N {
+            // An unusable cycle ends them where the function is off; in a shorter list.
+            171 => clear(channel, &RUNS),
+            172 => clear(channel, &WATCHES),
+            173 if head < 72 => clear(channel, &WATCHES),
+            _ => (),
+        }
+    }
+    for (run, bit) in directions {
+        let (watch, extreme) = (run + 1, run + 2);
+        let state = *channel.state();
+        let goes_on = on && !unusable && state[watch] == 1 && old[watch] != 0;
+        match N {
+            // The run waits while there is a watch, stops one past the delay, or is counted on for ever.
+            174 if goes_on => set(channel, run, old[run]),
+            175 if on => set(channel, run, state[run].min(delay + 1)),
+            176 if state[run] == 1_001 && !unusable => set(channel, run, old[run].wrapping_add(1)),
+            // It stops at 1,000 with a delay below; an unusable cycle cuts it; it is read by its lowest 16 bits.
+            177 if delay < 1_000 => set(channel, run, state[run].min(1_000)),
+            178 if unusable => set(channel, run, state[run].min(1_001)),
+            179 if old[run] > 0xffff && state[run] == 1_001 => {
+                set(channel, run, (old[run] & 0xffff) + 1)
+            }
+            // It begins anew with the watch, or is 0 in one.
+            180 if state[watch] == 1 && old[watch] == 0 => set(channel, run, 1),
+            181 if state[watch] == 1 => set(channel, run, 0),
+            // A watch is "run > delay".
+            182 if goes_on && state[run] <= delay => {
+                set(channel, watch, 0);
+                set(channel, extreme, 0);
+            }
+            183 if on && !unusable && state[watch] == 1 && old[watch] == 0 && old[run] > delay => {
+                set(channel, watch, 0);
+                set(channel, extreme, 0);
+            }
+            // Of a watch's word only bit 0 counts, or the lowest 8 bits.
+            184 if goes_on && old[watch] & 1 == 0 => set(channel, extreme, position as u32),
+            185 if goes_on && old[watch] & 0xff == 0 => set(channel, extreme, position as u32),
+            // The word is left as it is; the extreme of no watch is left, or is the position.
+            186 if state[watch] == 1 && old[watch] > 1 => set(channel, watch, old[watch]),
+            187 if state[watch] == 0 => set(channel, extreme, old[extreme]),
+            188 if state[watch] == 0 && !unusable => set(channel, extreme, position as u32),
+            189 if state[watch] == 0 && old[watch] != 0 => set(channel, extreme, old[extreme]),
+            // An unusable cycle takes the position in, or the bit; counts; ends runs without a watch.
+            190 if unusable && state[watch] != 0 => set(channel, extreme, position as u32),
+            191 if unusable && inputs >> bit & 1 == 1 => {
+                set(channel, run, 0);
+                set(channel, watch, 0);
+                set(channel, extreme, 0);
+            }
+            192 if unusable && on => set(channel, run, state[run].saturating_add(1)),
+            193 if unusable && state[watch] == 0 => set(channel, run, 0),
+            // The extreme of the negative direction is the highest; both have the positive one's words.
+            194 if goes_on && bit == 14 => {
+                set(channel, extreme, (old[extreme] as i32).max(position) as u32)
+            }
+            195 if bit == 14 && on => {
+                set(channel, run, state[word::POSITIVE_RUN]);
+            }
+            // The words of both directions stand the other way about.
+            196 if bit == 13 => {
+                for place in 0..3 {
+                    set(channel, run + place, state[word::NEGATIVE_RUN + place]);
+                    set(channel, word::NEGATIVE_RUN + place, state[run + place]);
+                }
+            }
+            // An extreme by its lowest 28 bits.
+            197 if goes_on => set(channel, extreme, ((state[extreme] << 4) as i32 >> 4) as u32),
+            // A run under STOP A waits.
+            198 if old[word::STOP] == 3 && !unusable => set(channel, run, old[run]),
+            _ => (),
+        }
+    }
+}
+
 /// What wrong boards order the codes by.
 struct Seen {
     /// The codes that stand, upwards.
@@ -440,6 +716,7 @@ impl Seen {
             6 => 3,
             7 => 2,
             8 => 1,
+            14 => self.data[71],
             _ => 0,
         }
     }
@@ -504,6 +781,18 @@ fn wrong_rank<const N: u32>(seen: &Seen, code: u8) -> i32 {
         (127, _) if seen.head == 51 => 0,
         (128, _) if seen.head == 67 => 0,
         (129, _) if seen.head == 69 => 0,
+        (149, _) if seen.head == 72 => 0,
+        // 14 by a fixed rank: none, E, C, B, A; by the stop of SG or SE.
+        (150, 14) => 0,
+        (151, 14) => 1,
+        (152, 14) => 3,
+        (153, 14) => 4,
+        (154, 14) => 5,
+        (155, 14) => seen.data[7 + seen.sg],
+        (156, 14) => seen.data[15],
+        // As A where STOP B is STOP A at once; with 13 behind it.
+        (157, 14) if rank == 4 && seen.at_once => 5,
+        (158, 14) if seen.stands(13) => rank.min(3),
         _ => rank,
     }
 }
@@ -518,10 +807,14 @@ fn wrong_tie<const N: u32>(seen: &Seen, code: u8) -> i32 {
         (83, _) if rank > 0 => -i32::from(code),
         // First among their equals: 13, 9, the external stops, 4, 12, 11.
         (84, 13) | (85, 9) | (87, 4) | (91, 4) | (104, 13) => 0,
-        (86, 5..=8) => i32::from(code) - 13,
+        (86, 5..=8) => i32::from(code) - 14,
         (130, 12) | (131, 11) => 0,
+        // 14 first among its equals, or behind 4 and before the external stops, or before 13.
+        (159, 14) => 0,
+        (160, 14) => 4,
+        (161, 14) => 12,
         // Last among their equals: 2, 3 and 4.
-        (88, 2) | (89, 3 | 4) => i32::from(code) + 13,
+        (88, 2) | (89, 3 | 4) => i32::from(code) + 14,
         _ => code.into(),
     }
 }
@@ -619,7 +912,11 @@ fn untold(scripts: &[Script]) -> Vec<u32> {
         30 31 32 33 34 35 36 37 38 39 40 41 42 43 44 45 46 47 48 49 50 51 52 53 54 55 56 57 58 59
         60 61 62 63 64 65 66 67 68 69 70 71 72 73 74 75 76 77 78 79 80 81 82 83 84 85 86 87 88 89
         90 91 92 93 94 95 96 97 98 99 100 101 102 103 104 105 106 107 108 109 110 111 112 113 114
-        115 116 117 118 119 120 121 122 123 124 125 126 127 128 129 130 131 132 133 134 135 136 137 138);
+        115 116 117 118 119 120 121 122 123 124 125 126 127 128 129 130 131 132 133 134 135 136 137 138
+        139 140 141 142 143 144 145 146 147 148 149 150 151 152 153 154 155 156 157 158 159 160
+        161 162 163 164 165 166 167 168 169 170 171 172 173 174 175 176 177 178 179 180 181 182
+        183 184 185 186 187 188 189 190 191 192 193 194 195 196 197 198 199 200 201 202 203 204
+        205 206 207 208 209 210 211 212 213 214 215 216 217 218 219 220 221);
     assert_eq!(told[0], (0, 0));
     let untold = told[1..].iter().filter(|(_, scripts)| *scripts == 0);
     untold.map(|(board, _)| *board).collect()
@@ -736,8 +1033,8 @@ fn a_text_that_is_no_script_is_refused() {
             "line 3: '69' is not a datum's number from 0 to 68",
         ),
         (
-            "list X of 70 data -> accepted 211",
-            "line 2: '70' is not a number of data from 1 to 69",
+            "list X of 73 data -> accepted 220",
+            "line 2: '73' is not a number of data from 1 to 72",
         ),
         (
             "list X -> accepted 154\n  0 = 1 -> 1",
@@ -787,8 +1084,8 @@ fn a_text_that_is_no_script_is_refused() {
             "'81' is no word of 8 hexadecimal digits",
         ),
         (
-            "cycle X 0 SG1, report of X -> 00000081 cause 14",
-            "'14' is not a cause code from 1 to 13",
+            "cycle X 0 SG1, report of X -> 00000081 cause 15",
+            "'15' is not a cause code from 1 to 14",
         ),
         (
             "cycle X 0 SG1, report 0 SG1 -> 00000081 no cause",

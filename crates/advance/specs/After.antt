@@ -1,4 +1,4 @@
--- What a cycle leaves, by what steps 2 to 4 found: document 01, steps 1, 5 and 6, and "Channel word", and W3.
+-- What a cycle leaves, by what steps 2 to 4 found: document 01, steps 1, 5 and 6, and "Channel word", W3 and W6.
 use Prim.Native.Nat.{ℕ}
 use mathlib.Core.Bool.{Bool, false, not, _&&_}
 use mathlib.Core.List.{List}
@@ -20,7 +20,7 @@ use Rattle.judge.specs.declared.Findings.{Findings}
 use Rattle.advance.specs.declared.Advanced.{Advanced}
 
 -- "Unusable: cause 1, rank 5, not held. The previous position is forgotten; counts, runs, F, selections, references and cams stay; steps 2 to 5 are
--- skipped"; W3, of n<nx: "leaves value and run as they were"; "k .. rises by one each cycle"
+-- skipped"; W3, of n<nx: "leaves value and run as they were"; W6: only usable cycles count; "k .. rises by one each cycle"
 abbrev pub unusableNext : ℕ → State → State
 unusableNext count s = record { k = nextK count (s .k); kept = s .kept; stop = Cancelled; previous = Absent }
 
@@ -36,6 +36,7 @@ usableNext m s g f clears strongest =
             differing = f .differing;
             fault = clearedFault clears (f .fault);
             nx = f .nx;
+            directions = f .directions;
           };
       stop = stopNext (m .values) clears strongest (slower (m .values) (f .step) 33) (g .reading .position) (s .stop);
       previous = At (g .reading .position);

@@ -39,6 +39,7 @@ fn usable(values: &Values, count: usize, state: State, given: Given, findings: F
     let fault = findings.fault;
     let summary = findings.summary;
     let nx = findings.nx;
+    let directions = findings.directions;
     let strongest = summary.strongest;
     let clears = clears(given, summary);
     let after = stop.next(values, clears, strongest, findings.step, reading);
@@ -50,6 +51,7 @@ fn usable(values: &Values, count: usize, state: State, given: Given, findings: F
             differing: findings.differing,
             fault: fault.cleared(clears),
             nx,
+            directions,
         },
         stop: after,
         previous: Previous::At(reading.position),

@@ -9,7 +9,7 @@ use lib.IntN.{ℤ}
 use Rattle.laws.proofs.Bools.{if-case, or-left, or-right}
 use Rattle.machine_data.specs.declared.MachineData.{MachineData}
 use Rattle.machine_data.specs.Data.{functionOf}
-use Rattle.inputs.specs.Usable.{usableOf}
+use Rattle.inputs.specs.Usable.{bitsUsable, usableOf}
 use Rattle.selection.specs.declared.Selection.{Selection}
 use Rattle.selection.specs.Selection.{isEffective, selectedOf}
 use Rattle.selection.proofs.Effective.{effective-one-of}
@@ -27,7 +27,7 @@ use Rattle.channel.specs.Word.{word}
 use Rattle.log.specs.Run.{Both, givenA, givenB, deviceCycle, bothOf, running}
 use Rattle.kit_bytes.specs.KitBytes.{wordsOf}
 use Rattle.listing.specs.Listing.{listed}
-use Rattle.as_before.specs.Rules.{Nx, geared, inEveryCase, steadied, now, withoutW2}
+use Rattle.as_before.specs.Rules.{Nx, geared, inEveryCase, steadied, guarded, now, withoutW2}
 use Rattle.as_before.specs.Cycle.{rowsUnder, nextUnder, wordUnder}
 use Rattle.as_before.specs.Runs.{runningUnder, listedUnder}
 use Rattle.as_before.specs.Kept.{Enabled, ActiveAtEnd, ActiveAtEnds, ActiveKit, Selects, SelectsAlong, EffectiveIfChosen}
@@ -72,8 +72,8 @@ stops-active d effective f = go (expired f) (active d effective)
     go false b h = refl
 
 module _ (m : MachineData) (s : State) (g : Given) (a : ActiveAtEnd m s g) where
-  agree-active : (nx : Nx) → Agree (geared readList faultStops nx) (geared readList inEveryCase nx) m s g
-  unfolding faultIn differencesIn
+  agree-active : (nx : Nx) → Agree (geared readList faultStops nx guarded) (geared readList inEveryCase nx guarded) m s g
+  unfolding faultIn differencesIn usableOf bitsUsable
   agree-active nx =
       record {
         usable = refl;
@@ -81,12 +81,15 @@ module _ (m : MachineData) (s : State) (g : Given) (a : ActiveAtEnd m s g) where
         rise = refl;
         differs = refl;
         stops = λ u. stops-active (m .values) (choiceIn m s g .effective) (faultIn m s g) (a (subst T (sym u) tt));
+        watched = λ u. refl;
+        strongest = λ u. refl;
+        fresh = λ u. refl;
         nx = λ u. refl;
       }
 
   -- the causes, the state after the cycle and its word
   pub rows-active : rowsOf m s g ≡ rowsUnder withoutW2 m s g
-  rows-active = rows-now m s g ∙ rows-same now withoutW2 m s g (agree-active steadied)
+  rows-active = rows-now m s g ∙ rows-same now withoutW2 m s g (agree-active steadied) (λ rows. refl)
 
   pub next-active : next m s g ≡ nextUnder withoutW2 m s g
   next-active = next-now m s g ∙ next-same now withoutW2 m s g (agree-active steadied)
@@ -95,7 +98,7 @@ module _ (m : MachineData) (s : State) (g : Given) (a : ActiveAtEnd m s g) where
   word-active = word-now m s g ∙ word-same now withoutW2 m s g (agree-active steadied)
 
 module _ (da db : MachineData) where
-  along-active : (nx : Nx) (x : Both) (rs : List CycleRecord) → ActiveAtEnds da db x rs → AgreeAlong (geared readList faultStops nx) (geared readList inEveryCase nx) da db x rs
+  along-active : (nx : Nx) (x : Both) (rs : List CycleRecord) → ActiveAtEnds da db x rs → AgreeAlong (geared readList faultStops nx guarded) (geared readList inEveryCase nx guarded) da db x rs
   along-active nx x [] h = tt
   along-active nx x (r ∷ rs) h = (
     record {
@@ -104,7 +107,7 @@ module _ (da db : MachineData) where
       a = agree-active da (x .a) (givenA da db x r) (h .0) nx;
       b = agree-active db (x .b) (givenB da db x r) (h .1) nx;
     },
-    subst (λ (y : Both). AgreeAlong (geared readList faultStops nx) (geared readList inEveryCase nx) da db y rs) (both-now da db x r) (along-active nx (deviceCycle da db x r .both) rs (h .2)),
+    subst (λ (y : Both). AgreeAlong (geared readList faultStops nx guarded) (geared readList inEveryCase nx guarded) da db y rs) (both-now da db x r) (along-active nx (deviceCycle da db x r .both) rs (h .2)),
   )
 
   -- where SE or cams are enabled in both lists, any run
@@ -127,14 +130,14 @@ module _ (da db : MachineData) where
 
 module _ (nx : Nx) where
   pub running-in-every-case : (a b : Channel) (out : List ℕ) (rs : List CycleRecord) → ActiveAtEnds (a .list) (b .list) (bothOf a b) rs →
-      runningUnder (geared readList faultStops nx) a b out rs ≡ runningUnder (geared readList inEveryCase nx) a b out rs
+      runningUnder (geared readList faultStops nx guarded) a b out rs ≡ runningUnder (geared readList inEveryCase nx guarded) a b out rs
   running-in-every-case a b out rs h =
-      running-same (geared readList faultStops nx) (geared readList inEveryCase nx) a b out rs (along-active (a .list) (b .list) nx (bothOf a b) rs h)
+      running-same (geared readList faultStops nx guarded) (geared readList inEveryCase nx guarded) a b out rs (along-active (a .list) (b .list) nx (bothOf a b) rs h)
 
   pub listed-in-every-case : (bytes : List ℕ) → ActiveKit (wordsOf bytes) →
-      listedUnder (geared readList faultStops nx) bytes ≡ listedUnder (geared readList inEveryCase nx) bytes
+      listedUnder (geared readList faultStops nx guarded) bytes ≡ listedUnder (geared readList inEveryCase nx guarded) bytes
   listed-in-every-case bytes h =
-      listed-same (geared readList faultStops nx) (geared readList inEveryCase nx) bytes
+      listed-same (geared readList faultStops nx guarded) (geared readList inEveryCase nx guarded) bytes
       (record { read-a = refl; read-b = λ n e. refl; along = λ n m ea eb rs e. along-active _ _ nx _ rs (h n m ea eb rs e) })
 
 -- what an accepted log leaves: both channels and the whole output

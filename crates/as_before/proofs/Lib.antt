@@ -1,7 +1,9 @@
 pub mod Lists
+pub mod Short
 pub mod Cycle
 pub mod Runs
 pub mod Headed51
 pub mod Active
 pub mod Steadied
+pub mod Directed
 pub mod Earlier

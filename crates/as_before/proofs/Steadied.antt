@@ -26,15 +26,14 @@ use Rattle.channel.specs.Word.{word}
 use Rattle.log.specs.Run.{Both, bothOf, running}
 use Rattle.kit_bytes.specs.KitBytes.{wordsOf}
 use Rattle.listing.specs.Listing.{listed}
-use Rattle.as_before.specs.Lists.{heads67, read67}
-use Rattle.as_before.specs.Rules.{Cause13, Nx, geared, atOnce, steadied, now, withoutW3, beforeW3}
+use Rattle.as_before.specs.Lists.{heads67}
+use Rattle.as_before.specs.Rules.{Cause13, Guarding, geared, atOnce, steadied, guarded, now, withoutW3}
 use Rattle.as_before.specs.Cycle.{stepUnder, rowsUnder, nextUnder, wordUnder}
 use Rattle.as_before.specs.Runs.{runningUnder, listedUnder}
 use Rattle.as_before.specs.Kept.{Headed51, Headed, HeadedKit, Unsteadied, UnsteadiedKit}
-use Rattle.as_before.proofs.Lists.{read-67}
 use Rattle.as_before.proofs.Cycle.{Agree, word-same, rows-now, next-now, word-now}
 use Rattle.as_before.proofs.Runs.{AgreeAlong, running-same, listed-same, running-now, listed-now}
-use Rattle.as_before.proofs.Headed51.{short}
+use Rattle.as_before.proofs.Short.{short}
 
 -- ---- lists without the two data
 
@@ -49,11 +48,11 @@ module _ (m : MachineData) (c : m .count ≤ 67) (zero-behind : (k : ℕ) → m 
 pub unsteadied-51 : (m : MachineData) → Headed51 m → Unsteadied m
 unsteadied-51 m h = short-unsteadied m (omega (arith, h .count)) (λ k l. h .lacks k (omega (arith, h .count, l)))
 
--- an accepted list that is not headed 69
+-- an accepted list headed 51 or 67
 pub unsteadied-67 : (s : List ℕ) (n : ℕ) → Headed heads67 s → readList s .answer ≡ A.the-variants.Accepted n → Unsteadied (readList s .list)
 unsteadied-67 s n earlier e =
     let x = short heads67 s n earlier e in
-    short-unsteadied (readList s .list) (at-most (readList s .list .count) (x .0)) (x .1)
+    short-unsteadied (readList s .list) (at-most (readList s .list .count) (x .0)) (x .2)
   where
     at-most : (m : ℕ) → T (among m heads67) → m ≤ 67
     at-most m = go (eqb m 51) refl (eqb m 67) refl
@@ -63,7 +62,7 @@ unsteadied-67 s n earlier e =
         go false p true q t = omega (arith, eqb-true m 67 q)
         go false p false q t = absurd t
 
--- a kit without a list headed 69
+-- a kit of such lists
 pub unsteadied-kit : (words : List ℕ) → HeadedKit heads67 words → UnsteadiedKit words
 unsteadied-kit words kit =
     record {
@@ -82,8 +81,8 @@ module _ (m : MachineData) (s : State) (g : Given) where
 
 -- ---- the rules agree
 
-module _ (stops : Cause13) where
-  agree-unsteadied : (m : MachineData) → Unsteadied m → (s : State) (g : Given) → Agree (geared readList stops steadied) (geared readList stops atOnce) m s g
+module _ (stops : Cause13) (w : Guarding) where
+  agree-unsteadied : (m : MachineData) → Unsteadied m → (s : State) (g : Given) → Agree (geared readList stops steadied w) (geared readList stops atOnce w) m s g
   agree-unsteadied m h s g =
       record {
         usable = refl;
@@ -91,58 +90,39 @@ module _ (stops : Cause13) where
         rise = refl;
         differs = refl;
         stops = λ u. refl;
-        nx = λ u. as-before (m .values) (stepUnder (geared readList stops steadied) m s g) (h .no-hysteresis) (h .no-filter) (s .kept .nx);
+        watched = λ u. refl;
+        strongest = λ u. refl;
+        fresh = λ u. refl;
+        nx = λ u. as-before (m .values) (stepUnder (geared readList stops steadied w) m s g) (h .no-hysteresis) (h .no-filter) (s .kept .nx);
       }
 
   along-unsteadied : (da db : MachineData) → Unsteadied da → Unsteadied db → (x : Both) (rs : List CycleRecord) →
-      AgreeAlong (geared readList stops steadied) (geared readList stops atOnce) da db x rs
+      AgreeAlong (geared readList stops steadied w) (geared readList stops atOnce w) da db x rs
   along-unsteadied da db ha hb x [] = tt
   along-unsteadied da db ha hb x (r ∷ rs) =
       (record { report-a = refl; report-b = refl; a = agree-unsteadied da ha (x .a) _; b = agree-unsteadied db hb (x .b) _ }, along-unsteadied da db ha hb _ rs)
 
   pub running-at-once : (a b : Channel) → Unsteadied (a .list) → Unsteadied (b .list) → (out : List ℕ) (rs : List CycleRecord) →
-      runningUnder (geared readList stops steadied) a b out rs ≡ runningUnder (geared readList stops atOnce) a b out rs
+      runningUnder (geared readList stops steadied w) a b out rs ≡ runningUnder (geared readList stops atOnce w) a b out rs
   running-at-once a b ha hb out rs =
-      running-same (geared readList stops steadied) (geared readList stops atOnce) a b out rs (along-unsteadied (a .list) (b .list) ha hb (bothOf a b) rs)
+      running-same (geared readList stops steadied w) (geared readList stops atOnce w) a b out rs (along-unsteadied (a .list) (b .list) ha hb (bothOf a b) rs)
 
   pub listed-at-once : (bytes : List ℕ) → UnsteadiedKit (wordsOf bytes) →
-      listedUnder (geared readList stops steadied) bytes ≡ listedUnder (geared readList stops atOnce) bytes
+      listedUnder (geared readList stops steadied w) bytes ≡ listedUnder (geared readList stops atOnce w) bytes
   listed-at-once bytes kit =
-      listed-same (geared readList stops steadied) (geared readList stops atOnce) bytes
+      listed-same (geared readList stops steadied w) (geared readList stops atOnce w) bytes
       (record { read-a = refl; read-b = λ n e. refl; along = λ n m ea eb rs _. along-unsteadied _ _ (kit .list-a n ea) (kit .list-b n m ea eb) _ rs })
 
-  module _ (nx : Nx) where
-    along-shorter : (da db : MachineData) (x : Both) (rs : List CycleRecord) → AgreeAlong (geared readList stops nx) (geared read67 stops nx) da db x rs
-    along-shorter da db x [] = tt
-    along-shorter da db x (r ∷ rs) =
-        let same : (m : MachineData) (s : State) (g : Given) → Agree (geared readList stops nx) (geared read67 stops nx) m s g =
-        λ m s g. record { usable = refl; ratio = refl; rise = refl; differs = refl; stops = λ u. refl; nx = λ u. refl } in
-        (record { report-a = refl; report-b = refl; a = same da (x .a) _; b = same db (x .b) _ }, along-shorter da db _ rs)
-
-    -- a log's run does not ask how a list is read
-    pub running-shorter : (a b : Channel) (out : List ℕ) (rs : List CycleRecord) →
-        runningUnder (geared readList stops nx) a b out rs ≡ runningUnder (geared read67 stops nx) a b out rs
-    running-shorter a b out rs = running-same (geared readList stops nx) (geared read67 stops nx) a b out rs (along-shorter (a .list) (b .list) (bothOf a b) rs)
-
-    pub listed-shorter : (bytes : List ℕ) → HeadedKit heads67 (wordsOf bytes) → listedUnder (geared readList stops nx) bytes ≡ listedUnder (geared read67 stops nx) bytes
-    listed-shorter bytes kit =
-        let words = wordsOf bytes in
-        listed-same (geared readList stops nx) (geared read67 stops nx) bytes
-        (record { read-a = read-67 words (kit .list-a); read-b = λ n ea. read-67 (drop n words) (kit .list-b n ea); along = λ n m ea eb rs _. along-shorter _ _ _ rs })
-
--- ---- so a cycle, a log and a kit are as before W3
+-- ---- so a cycle, a log and a kit are as without W3
 
 pub word-unsteadied : (m : MachineData) → Unsteadied m → (s : State) (g : Given) → word m s g ≡ wordUnder withoutW3 m s g
-word-unsteadied m h s g = word-now m s g ∙ word-same now withoutW3 m s g (agree-unsteadied faultStops m h s g)
+word-unsteadied m h s g = word-now m s g ∙ word-same now withoutW3 m s g (agree-unsteadied faultStops guarded m h s g)
 
 -- what an accepted log leaves: both channels and the whole output
 pub running-unsteadied : (a b : Channel) → Unsteadied (a .list) → Unsteadied (b .list) → (out : List ℕ) (rs : List CycleRecord) →
-    running a b out rs ≡ runningUnder beforeW3 a b out rs
-running-unsteadied a b ha hb out rs = running-now a b out rs ∙ running-at-once faultStops a b ha hb out rs ∙ running-shorter faultStops atOnce a b out rs
+    running a b out rs ≡ runningUnder withoutW3 a b out rs
+running-unsteadied a b ha hb out rs = running-now a b out rs ∙ running-at-once faultStops guarded a b ha hb out rs
 
--- a kit's listing: headed 69 with both data 0, and with shorter lists
+-- a kit's listing: headed 69 or 72 with both data 0, and with shorter lists
 pub listed-unsteadied : (bytes : List ℕ) → UnsteadiedKit (wordsOf bytes) → listed bytes ≡ listedUnder withoutW3 bytes
-listed-unsteadied bytes kit = listed-now bytes ∙ listed-at-once faultStops bytes kit
-
-pub listed-67 : (bytes : List ℕ) → HeadedKit heads67 (wordsOf bytes) → listed bytes ≡ listedUnder beforeW3 bytes
-listed-67 bytes kit = listed-unsteadied bytes (unsteadied-kit (wordsOf bytes) kit) ∙ listed-shorter faultStops atOnce bytes kit
+listed-unsteadied bytes kit = listed-now bytes ∙ listed-at-once faultStops guarded bytes kit

@@ -1,5 +1,5 @@
--- A cycle under any rules. All else is taken as it is now: the table of causes and what a usable cycle leaves are those of now, with the step and the cause 13
--- of the rules; n<nx goes on in the state, whatever the rules show of it. That the comparisons of a step of 1 to 1 are document 01's is `too-fast-51` and
+-- A cycle under any rules. All else is taken as it is now: the table of causes and what a usable cycle leaves are those of now, with the step, the cause 13
+-- and the directions of the rules, and the rows that they have of it; n<nx goes on in the state, whatever the rules show of it. That the comparisons of a step of 1 to 1 are document 01's is `too-fast-51` and
 -- `slower-51` in proofs/Headed51.antt; and data 0 to 50 are read by its table, `datum-51` in proofs/Lists.antt.
 use Prim.Native.Nat.{ℕ}
 use mathlib.Core.Bool.{Bool, true, not, cond, _&&_}
@@ -11,6 +11,7 @@ use Rattle.speed.specs.declared.Step.{Step}
 use Rattle.nx_signal.specs.Signal.{signalNext}
 use Rattle.rank.specs.declared.Rank.the-variants as R
 use Rattle.stop.specs.declared.Stop.the-variants.{Cancelled}
+use Rattle.direction.specs.declared.Watched.{Watched}
 use Rattle.comparison.specs.declared.Fault.{Fault}
 use Rattle.comparison.specs.Comparison.{positionDiffers, inputsDiffer, faultNext}
 use Rattle.causes.specs.declared.Cause.{Cause}
@@ -44,8 +45,15 @@ module _ (rules : Rules) (m : MachineData) (s : State) (g : Given) where
   abbrev pub stopsUnder : Bool
   stopsUnder = rules .stops (m .values) (choiceIn m s g .effective) faultUnder
 
+  -- the directions, and cause 14
+  abbrev pub watchedUnder : Watched
+  watchedUnder = rules .guard .watched (m .values) (g .reading) (s .kept .directions)
+
+  abbrev pub tableUnder : List Cause
+  tableUnder = table (m .values) (s .stop) (g .reading) (choiceIn m s g) stepUnder differencesUnder stopsUnder (watchedUnder .overstepped)
+
   abbrev pub usableRowsUnder : List Cause
-  usableRowsUnder = table (m .values) (s .stop) (g .reading) (choiceIn m s g) stepUnder differencesUnder stopsUnder
+  usableRowsUnder = rules .guard .rows tableUnder
 
   -- "Unusable: cause 1, rank 5"; else the table of step 4
   abbrev pub rowsUnder : List Cause
@@ -57,6 +65,7 @@ module _ (rules : Rules) (m : MachineData) (s : State) (g : Given) where
         step = stepUnder;
         nx = signalNext (m .values) stepUnder (s .kept .nx);
         choice = choiceIn m s g;
+        directions = watchedUnder .directions;
         differing = differingIn s g;
         fault = faultUnder;
         rows = usableRowsUnder;

@@ -1,7 +1,7 @@
 -- What the theorems ask: the lists, cycles, runs and kits that a request leaves as they were.
 use Prim.Native.Nat.{ℕ, _+_, _≤_}
 use mathlib.Core.Path.{_≡_}
-use mathlib.Core.Bool.{true, _||_}
+use mathlib.Core.Bool.{true, false, _||_}
 use mathlib.Core.List.{List, [], _∷_}
 use lib.ListN.{getD, drop}
 use lib.IntN.{pos}
@@ -32,6 +32,8 @@ use Rattle.log.specs.Run.{Both, givenA, givenB, deviceCycle}
 pub record Headed51 (m : MachineData) : Type 0 where
   pub count : m .count ≡ 51
   pub lacks : (k : ℕ) → 51 ≤ k → getD (m .values) k (pos 0) ≡ pos 0
+  -- W6: "datum 1 may then be up to 63", and in a shorter list up to 31
+  pub no-direction : functionOf (m .values) 5 ≡ false
 
 -- a list whose head, if it is one, is among these
 abbrev pub Headed : List ℕ → List ℕ → Type 0
@@ -89,3 +91,14 @@ pub record Unsteadied (m : MachineData) : Type 0 where
 pub record UnsteadiedKit (words : List ℕ) : Type 0 where
   pub list-a : (n : ℕ) → readList words .answer ≡ Accepted n → Unsteadied (readList words .list)
   pub list-b : (n m : ℕ) → readList words .answer ≡ Accepted n → readList (drop n words) .answer ≡ Accepted m → Unsteadied (readList (drop n words) .list)
+
+-- ---- W6
+
+-- a list without function 5, as every one of 51, 67 or 69 data (`short-undirected` in proofs/Directed.antt)
+abbrev pub Undirected : MachineData → Type 0
+Undirected m = functionOf (m .values) 5 ≡ false
+
+-- in both lists of a kit, if they are accepted
+pub record UndirectedKit (words : List ℕ) : Type 0 where
+  pub list-a : (n : ℕ) → readList words .answer ≡ Accepted n → Undirected (readList words .list)
+  pub list-b : (n m : ℕ) → readList words .answer ≡ Accepted n → readList (drop n words) .answer ≡ Accepted m → Undirected (readList (drop n words) .list)

@@ -10,7 +10,7 @@ use lib.Dec.{leb}
 use Rattle.refusal.specs.declared.Refusal.the-variants.{WrongWord, OutOfRange}
 use Rattle.words.specs.Words.{wordAt}
 use Rattle.words.specs.Cases.{ifHead}
-use Rattle.ranges.specs.Table.{Row, baseRows, gearRows, rowOf}
+use Rattle.ranges.specs.Table.{Row, baseRows, gearRows, nxRows, rowOf}
 use Rattle.datum.specs.declared.DatumRead as R
 use Rattle.datum.specs.declared.Units as U
 use Rattle.datum.specs.declared.DatumAnswer as D
@@ -55,11 +55,18 @@ abbrev pub heads51 : List ℕ
 heads51 = 51 ∷ []
 
 abbrev pub read51 : List ℕ → ListRead
-read51 = readBy baseRows heads51
+read51 = readBy (baseRows 31) heads51
 
 -- before W3: W1's data too; "the list head then says 67"
 abbrev pub heads67 : List ℕ
 heads67 = 51 ∷ 67 ∷ []
 
 abbrev pub read67 : List ℕ → ListRead
-read67 = readBy (baseRows ++ gearRows) heads67
+read67 = readBy (baseRows 31 ++ gearRows) heads67
+
+-- before W6: W3's data too; datum 1 goes up to 31
+abbrev pub heads69 : List ℕ
+heads69 = 51 ∷ 67 ∷ 69 ∷ []
+
+abbrev pub read69 : List ℕ → ListRead
+read69 = readBy (baseRows 31 ++ gearRows ++ nxRows) heads69

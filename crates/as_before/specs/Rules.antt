@@ -1,19 +1,25 @@
 -- What the requests have moved in how a list is read and a cycle goes, as one record: the rules of now, those without one request, and those before one, back
 -- to document 01's. What no request moved is not kept twice: a cycle under any rules is Cycle.antt, a run Runs.antt.
 use Prim.Native.Nat.{ℕ, suc, _+_, _/_, _%_, _^_}
-use mathlib.Core.Bool.{Bool, cond, _&&_}
+use mathlib.Core.Bool.{Bool, false, cond, _&&_}
 use mathlib.Core.List.{List}
-use lib.ListN.{getD}
+use lib.ListN.{getD, take}
 use lib.IntN.{ℤ, pos, natAbs, _-ℤ_}
 use lib.Dec.{leb, ltb, eqb}
 use Rattle.machine_data.specs.declared.MachineData.{MachineData}
 use Rattle.machine_data.specs.declared.Ratio.{Ratio}
+use Rattle.machine_data.specs.Data.{hasRatios, functionOf}
 use Rattle.inputs.specs.declared.Reading.{Reading}
-use Rattle.inputs.specs.Usable.{usableOf, ratioIn}
+use Rattle.inputs.specs.Layout.{gearNumber, directionBits, spareOf}
+use Rattle.inputs.specs.Usable.{free, ratioIn}
 use Rattle.speed.specs.declared.Step.{Step}
 use Rattle.speed.specs.Speed.{slower}
 use Rattle.nx_signal.specs.declared.Signal.{Signal}
 use Rattle.nx_signal.specs.Signal.{signalNext}
+use Rattle.direction.specs.declared.Directions.{Directions}
+use Rattle.direction.specs.declared.Watched.{Watched}
+use Rattle.direction.specs.Direction.{watchedOf}
+use Rattle.causes.specs.declared.Cause.{Cause}
 use Rattle.selection.specs.declared.Selection.{Selection}
 use Rattle.report.specs.declared.Report.{Report}
 use Rattle.report.specs.Report.{nextK, reportOf, datumDiffers}
@@ -22,7 +28,7 @@ use Rattle.comparison.specs.Comparison.{expired}
 use Rattle.active.specs.Active.{faultStops}
 use Rattle.list.specs.declared.ListRead.{ListRead}
 use Rattle.list.specs.Reading.{readList}
-use Rattle.as_before.specs.Lists.{read51, read67}
+use Rattle.as_before.specs.Lists.{read51, read67, read69}
 
 -- whether cause 13 stands, by the data, the effective selection and F
 abbrev pub Cause13 : Type 0
@@ -31,6 +37,12 @@ Cause13 = List ℤ → Selection → Fault → Bool
 -- what a usable cycle shows of n<nx, by the data, its step and the signal that it finds
 abbrev pub Nx : Type 0
 Nx = List ℤ → Step → Signal → Bool
+
+-- safe direction: whether bits 13 and 14 may be 1, what a usable cycle makes of the directions, and what of the table of causes a cycle has
+pub record Guarding : Type 0 where
+  pub bits : List ℤ → Bool
+  pub watched : List ℤ → Reading → Directions → Watched
+  pub rows : List Cause → List Cause
 
 pub record Rules : Type 0 where
   -- how a list is read, which inputs are usable, the ratio of a step, what follows k, a report, and cause 12
@@ -44,12 +56,20 @@ pub record Rules : Type 0 where
   pub stops : Cause13
   -- n<nx
   pub nx : Nx
+  -- safe direction
+  pub guard : Guarding
 
 -- ---- since W1
 
-abbrev pub geared : (List ℕ → ListRead) → Cause13 → Nx → Rules
-geared read stops nx =
-    record { read = read; usable = usableOf; ratio = ratioIn; rise = nextK; report = reportOf; differs = datumDiffers; stops = stops; nx = nx }
+-- `usableOf`, but for bits 13 and 14
+abbrev pub usableBy : Guarding → MachineData → Reading → Bool
+usableBy guard m r =
+    let w = r .inputs in
+    leb (natAbs (r .position)) 100_000_000 && (eqb (spareOf w) 0 && free (guard .bits (m .values)) (directionBits w) && free (hasRatios (m .count)) (gearNumber w))
+
+abbrev pub geared : (List ℕ → ListRead) → Cause13 → Nx → Guarding → Rules
+geared read stops nx guard =
+    record { read = read; usable = usableBy guard; ratio = ratioIn; rise = nextK; report = reportOf; differs = datumDiffers; stops = stops; nx = nx; guard = guard }
 
 -- ---- before W1: document 01, "Safe inputs and reports" and "One cycle of a channel". Nothing here looks at a gear's bits, a ratio or a report's head
 
@@ -81,8 +101,8 @@ report51 m k r = record { position = r .position; inputs = r .inputs; datum = en
 abbrev pub differs51 : MachineData → ℕ → Report → Bool
 differs51 m k o = ltb 0 (natAbs (entry51 (m .values) k -ℤ o .datum))
 
-abbrev pub ungeared : Cause13 → Nx → Rules
-ungeared stops nx =
+abbrev pub ungeared : Cause13 → Nx → Guarding → Rules
+ungeared stops nx guard =
     record {
       read = read51;
       usable = λ m r. usable51 r;
@@ -92,6 +112,7 @@ ungeared stops nx =
       differs = differs51;
       stops = stops;
       nx = nx;
+      guard = guard;
     }
 
 -- ---- before W2
@@ -110,27 +131,42 @@ atOnce d step s = slower d step 25
 abbrev pub steadied : Nx
 steadied d step s = signalNext d step s .on
 
+-- ---- before W6, and since
+
+-- bits 13 and 14 must be 0, no cycle changes a direction, and the table ends with cause 13
+abbrev pub unguarded : Guarding
+unguarded = record { bits = λ d. false; watched = λ d r x. record { directions = x; overstepped = false }; rows = take 12 }
+
+abbrev pub guarded : Guarding
+guarded = record { bits = λ d. functionOf d 5; watched = watchedOf; rows = λ rows. rows }
+
 -- ---- the rules of now, and those of now without one request
 
 abbrev pub now : Rules
-now = geared readList faultStops steadied
+now = geared readList faultStops steadied guarded
 
 abbrev pub withoutW1 : Rules
-withoutW1 = ungeared faultStops steadied
+withoutW1 = ungeared faultStops steadied guarded
 
 abbrev pub withoutW2 : Rules
-withoutW2 = geared readList inEveryCase steadied
+withoutW2 = geared readList inEveryCase steadied guarded
 
 abbrev pub withoutW3 : Rules
-withoutW3 = geared readList faultStops atOnce
+withoutW3 = geared readList faultStops atOnce guarded
+
+abbrev pub withoutW6 : Rules
+withoutW6 = geared readList faultStops steadied unguarded
 
 -- ---- the rules that have been
 
+abbrev pub beforeW6 : Rules
+beforeW6 = geared read69 faultStops steadied unguarded
+
 abbrev pub beforeW3 : Rules
-beforeW3 = geared read67 faultStops atOnce
+beforeW3 = geared read67 faultStops atOnce unguarded
 
 abbrev pub beforeW2 : Rules
-beforeW2 = geared read67 inEveryCase atOnce
+beforeW2 = geared read67 inEveryCase atOnce unguarded
 
 abbrev pub document01 : Rules
-document01 = ungeared inEveryCase atOnce
+document01 = ungeared inEveryCase atOnce unguarded

@@ -5,7 +5,7 @@ use Rattle.list.specs.declared.ListAnswer as L
 
 -- the number of this interface
 abbrev pub interfaceNumber : ℕ
-interfaceNumber = 5
+interfaceNumber = 6
 
 -- ---- answers: 0 and how many, or a refusal's number and its place; and what is left, which a refusal leaves as it was
 

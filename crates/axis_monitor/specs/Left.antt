@@ -1,9 +1,15 @@
 -- What the exported functions leave: of each the result and all memory that is lent to it, as one value. A prime marks what a call leaves. Where a call
 -- leaves a channel, the value has also the channel that the arrays then stand for, so that calls may follow each other.
-use Prim.Native.Nat.{ℕ}
-use mathlib.Core.List.{List}
+use Prim.Native.Nat.{ℕ, _%_}
+use mathlib.Core.Bool.{Bool, false, cond, _&&_}
+use mathlib.Core.List.{List, _++_}
 use lib.IntN.{ℤ}
 use Rattle.machine_data.specs.declared.MachineData.{MachineData}
+use Rattle.machine_data.specs.Data.{functionOf}
+use Rattle.inputs.specs.declared.Reading.{Reading}
+use Rattle.inputs.specs.Usable.{usableOf}
+use Rattle.direction.specs.declared.Directions.{Directions}
+use Rattle.direction.specs.Direction.{directionsNext}
 use Rattle.causes.specs.Causes.{unusableTable}
 use Rattle.codes.specs.declared.Causes.{Causes}
 use Rattle.codes.specs.Codes.{causesOf, causesIf}
@@ -20,8 +26,8 @@ use Rattle.channel.specs.declared.Channel.{Channel}
 use Rattle.channel.specs.Cycle.{freshChannel, withState, next}
 use Rattle.channel.specs.Word.{word}
 use Rattle.channel.specs.Outcome.{causesIn}
-use Rattle.image.specs.Image.{countFrom, listFrom, stateFrom, stateWords, channelFrom}
-use Rattle.image.specs.Written.{Written, writtenAs, writing}
+use Rattle.image.specs.Image.{countFrom, listFrom, directionsFrom, stateFrom, frontWords, directionWords, stateWords, directionsIn, channelFrom}
+use Rattle.image.specs.Written.{Written, writtenAs, withDirections, DirectionsWritten, directionsAs, writingDirections}
 use Rattle.crossing_reports.specs.Reports.{reportWords, reportFrom}
 use Rattle.axis_monitor.specs.Crossing.{listNumber, listPlace, listLeft}
 
@@ -75,17 +81,35 @@ pub record WayLeft : Type 0 where
 abbrev pub leftByWay : ℕ → List ℕ → List ℕ → WayLeft
 leftByWay w state′ codes′ = record { word = w; written = writtenAs state′; codes = codes′ }
 
+-- the words of the directions, over words w: written with the function on, in a usable cycle, and else left as they are
+abbrev pub guarding : List ℤ → Reading → Directions → List ℕ → DirectionsWritten
+guarding d r x w = cond (functionOf d 5) (writingDirections (directionsNext d r x) w) (directionsAs w)
+
+-- the words of a count and a state over words w, with those of the directions or without
+abbrev pub wordsOver : Bool → ℕ → State → List ℕ → List ℕ
+wordsOver guarded count s w = frontWords count s ++ cond guarded (directionWords (s .kept .directions)) (directionsIn w)
+
+abbrev pub writingOver : Bool → ℕ → State → List ℕ → Written
+writingOver guarded count s w =
+    record {
+      words = wordsOver guarded count s w;
+      state = withDirections s (cond guarded (s .kept .directions) (directionsFrom w));
+      count = count % 4_294_967_296;
+    }
+
 -- what a way leaves that comes to this state and word and to these causes, of a list of so many data
-abbrev pub leaving : ℕ → Advanced → Causes → WayLeft
-leaving count a causes = record { word = a .word; written = writing count (a .state); codes = causes .codes }
+abbrev pub leaving : Bool → ℕ → Advanced → Causes → List ℕ → WayLeft
+leaving guarded count a causes w = record { word = a .word; written = writingOver guarded count (a .state) w; codes = causes .codes }
 
 -- where the inputs are usable
-unfoldable pub usableLeaves : MachineData → State → Given → WayLeft
-usableLeaves m s g = let f = findingsOf m s g in leaving (m .count) (advancedBy m s g f) (causesIf (f .summary .any) (f .rows))
+unfoldable pub usableLeaves : MachineData → State → Given → List ℕ → WayLeft
+usableLeaves m s g w =
+    let f = findingsOf m s g in
+    leaving (functionOf (m .values) 5) (m .count) (advancedBy m s g f) (causesIf (f .summary .any) (f .rows)) w
 
 -- and where they are not
-unfoldable pub unusableLeaves : MachineData → State → WayLeft
-unusableLeaves m s = leaving (m .count) (advancedUnusable m s) (causesOf unusableTable)
+unfoldable pub unusableLeaves : MachineData → State → List ℕ → WayLeft
+unusableLeaves m s w = leaving false (m .count) (advancedUnusable m s) (causesOf unusableTable) w
 
 -- ---- a cycle of the channel that the arrays stand for
 
@@ -98,13 +122,17 @@ pub record CycleLeft : Type 0 where
 abbrev pub leftByCycle : List ℤ → ℕ → List ℕ → List ℕ → CycleLeft
 leftByCycle values w state′ codes′ = record { word = w; state = state′; codes = codes′; channel = channelFrom values state′ }
 
+-- a cycle writes the words of the directions: it is usable, and the function is on
+abbrev pub guardedIn : MachineData → Given → Bool
+guardedIn m g = usableOf m (g .reading) && functionOf (m .values) 5
+
 abbrev pub cycleOn : List ℤ → List ℕ → Given → CycleLeft
 cycleOn values state g =
     let m = listFrom values state in
     let s = stateFrom state in
     record {
       word = word m s g;
-      state = stateWords (countFrom state) (next m s g);
+      state = wordsOver (guardedIn m g) (countFrom state) (next m s g) state;
       codes = causesIn m s g .codes;
       channel = withState (channelFrom values state) (next m s g);
     }

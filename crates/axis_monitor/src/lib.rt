@@ -5,12 +5,13 @@ ghost use mathlib.Core.Path.{_≡_};
 ghost use Rattle.device.specs.Device.{deviceOf};
 ghost use Rattle.crossing_reports.specs.Reports.{givenFrom};
 ghost use Rattle.axis_monitor.specs.Crossing.{interfaceNumber};
-ghost use Rattle.image.specs.Written.{writtenAs, writing};
-ghost use Rattle.axis_monitor.specs.Left.{leftByList, listInto, leftByReport, reportedBy, reporting, leftByWay, usableLeaves, unusableLeaves, leftByCycle, cycleOn};
+ghost use Rattle.direction.specs.Direction.{watchedOf};
+ghost use Rattle.image.specs.Written.{directionsAs};
+ghost use Rattle.axis_monitor.specs.Left.{leftByList, listInto, leftByReport, reportedBy, reporting, leftByWay, guarding, usableLeaves, unusableLeaves, leftByCycle, cycleOn};
 ghost use Rattle.machine_data.specs.Data.{lent};
-use advance::Advanced;
 use codes::Codes;
 use crossing_reports::ReportWords;
+use direction::Watched;
 use image::Image;
 use inputs::Reading;
 use list::ListAnswer;
@@ -23,7 +24,7 @@ use state::State;
 pub extern "C" fn monitor_interface() -> u32
     ensures { λ r. ⌜ r ≡ interfaceNumber ⌝ }
 {
-    5
+    6
 }
 
 // A list read into a fresh channel: 0 and the words used, or the refusal's number and place, with the arrays as they were.
@@ -66,24 +67,37 @@ pub extern "C" fn monitor_report(
     ensures { λ _. ⌜ leftByReport (now (report .exit)) ≡ reporting (reportedBy (now (values .entry)) (now (state .entry)) position inputs) ⌝ }
 {
     let count = image::count_of(state);
-    let known = image::state_from(state);
+    let k = image::k_of(state);
     let reading = Reading { position, inputs };
-    *report = crossing_reports::report_words(report::report_of(values, count, known.k, reading));
-}
-
-// What a cycle leaves of the channel in the caller's memory, and its word.
-fn leave(count: usize, advanced: Advanced, state: &mut Image) -> u32
-    ensures { λ r. ⌜ r ≡ advanced .word ⌝ }
-    ensures { λ _. ⌜ writtenAs (now (state .exit)) ≡ writing count (advanced .state) ⌝ }
-{
-    let after = advanced.state;
-    *state = image::words_of(count, after);
-    advanced.word
+    *report = crossing_reports::report_words(report::report_of(values, count, k, reading));
 }
 
 // The ways of a cycle are functions of their own. Each then writes what it leaves by itself: the parts that only one of them
 // changes would else be chosen one by one behind them. And the compiler can put the reckoning of the cams to the end of theirs,
 // beside the word that shows them, and takes all eight at once.
+
+// The directions of a usable cycle. Where the function is on, they go into the caller's memory at once: of a list without it, a
+// cycle then neither reads nor writes their words.
+fn guard(values: &Values, before: State, reading: Reading, state: &mut Image) -> Watched
+    ensures { λ r. ⌜ r ≡ watchedOf (now (values .entry)) reading (before .kept .directions) ⌝ }
+    ensures { λ _. ⌜ directionsAs (now (state .exit)) ≡ guarding (now (values .entry)) reading (before .kept .directions) (now (state .entry)) ⌝ }
+{
+    let kept = before.kept;
+    let directions = kept.directions;
+    if direction::on(values) {
+        let after = directions.next(values, reading);
+        image::put_directions(after, state);
+        Watched {
+            directions: after,
+            overstepped: after.overstepped(values, reading),
+        }
+    } else {
+        Watched {
+            directions,
+            overstepped: false,
+        }
+    }
+}
 
 // A usable cycle.
 fn usable_cycle(
@@ -94,14 +108,18 @@ fn usable_cycle(
     state: &mut Image,
     causes: &mut Codes,
 ) -> u32
-    ensures { λ r. ⌜ leftByWay r (now (state .exit)) (now (causes .exit)) ≡ usableLeaves (lent (now (values .entry)) count) before given ⌝ }
+    ensures { λ r. ⌜ leftByWay r (now (state .exit)) (now (causes .exit)) ≡ usableLeaves (lent (now (values .entry)) count) before given (now (state .entry)) ⌝ }
 {
-    let findings = judge::judge(values, count, before, given);
+    let watched = guard(values, before, given.reading, state);
+    let begun = judge::begin(values, before, given);
+    let findings = judge::finish(values, count, before, given, begun, watched);
     let rows = findings.rows;
     let summary = findings.summary;
     let advanced = advance::found(values, count, before, given, findings);
     codes::list_causes(rows, summary.any, causes);
-    leave(count, advanced, state)
+    let after = advanced.state;
+    image::put_front(count, after, state);
+    advanced.word
 }
 
 // One with unusable inputs.
@@ -112,11 +130,13 @@ fn unusable_cycle(
     state: &mut Image,
     causes: &mut Codes,
 ) -> u32
-    ensures { λ r. ⌜ leftByWay r (now (state .exit)) (now (causes .exit)) ≡ unusableLeaves (lent (now (values .entry)) count) before ⌝ }
+    ensures { λ r. ⌜ leftByWay r (now (state .exit)) (now (causes .exit)) ≡ unusableLeaves (lent (now (values .entry)) count) before (now (state .entry)) ⌝ }
 {
     let idle = advance::skipped(values, count, before);
     codes::list_unusable(causes);
-    leave(count, idle, state)
+    let after = idle.state;
+    image::put_front(count, after, state);
+    idle.word
 }
 
 // A cycle: the channel word, with the state after it and the codes that stand.

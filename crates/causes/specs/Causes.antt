@@ -18,9 +18,9 @@ cause code stands rank = record { code = code; stands = stands; rank = rank }
 abbrev pub unusableTable : List Cause
 unusableTable = cause 1 true A ∷ []
 
--- causes 2 to 13: how many rows the table of a usable cycle has
+-- causes 2 to 14: how many rows the table of a usable cycle has
 abbrev pub rowCount : ℕ
-rowCount = 12
+rowCount = 13
 
 -- a table's rows taken into something, one behind the other
 abbrev pub overRows : {S : Type 0} → (Cause → S → S) → List Cause → S → S

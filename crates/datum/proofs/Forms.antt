@@ -21,7 +21,7 @@ use Rattle.words.proofs.Word.{the-type}
 use Rattle.words.proofs.Cases.{no-datum, there}
 use Rattle.whole.specs.declared.Whole as H
 use Rattle.whole.specs.Whole.{wholeOf}
-use Rattle.ranges.specs.Table.{inRange}
+use Rattle.ranges.specs.Table.{allowed}
 use Rattle.datum.specs.declared.Datum as D
 use Rattle.datum.specs.declared.Pieces as P
 use Rattle.datum.specs.declared.DatumRead as R
@@ -115,22 +115,22 @@ module _ {d : D.Datum} (at : ℕ) where
 
 -- ---- the value of datum k
 
-module _ (s : List ℕ) (k at : ℕ) where
-  pub value-bad : {place : ℕ} → datumAt s k at ≡ R.the-variants.Bad place → A.the-variants.Refused (WrongWord place) ≡ valueAt s k at
+module _ (head : ℕ) (s : List ℕ) (k at : ℕ) where
+  pub value-bad : {place : ℕ} → datumAt s k at ≡ R.the-variants.Bad place → A.the-variants.Refused (WrongWord place) ≡ valueAt head s k at
   unfolding valueAt
-  value-bad h = sym (ap (ofRead k at) h)
+  value-bad h = sym (ap (ofRead head k at) h)
 
   module _ {d : D.Datum} {next : ℕ} (read : datumAt s k at ≡ R.the-variants.Datum d next) where
-    pub by-units : {u : U.Units} → unitsOf d at ≡ u → ofUnits k at next u ≡ valueAt s k at
+    pub by-units : {u : U.Units} → unitsOf d at ≡ u → ofUnits head k at next u ≡ valueAt head s k at
     unfolding valueAt
-    by-units e = sym (ap (ofRead k at) read ∙ ap (ofUnits k at next) e)
+    by-units e = sym (ap (ofRead head k at) read ∙ ap (ofUnits head k at next) e)
 
     -- y is z as the machine has it
-    pub by-range : {z y : ℤ} → unitsOf d at ≡ U.the-variants.Are z → y ≡ z → {t : Bool} → inRange k y ≡ t →
-        cond t (A.the-variants.Value y next) (A.the-variants.Refused (OutOfRange at)) ≡ valueAt s k at
+    pub by-range : {z y : ℤ} → unitsOf d at ≡ U.the-variants.Are z → y ≡ z → {t : Bool} → allowed head k y ≡ t →
+        cond t (A.the-variants.Value y next) (A.the-variants.Refused (OutOfRange at)) ≡ valueAt head s k at
     by-range {z} e same r =
         (λ i. cond (sym r i) (A.the-variants.Value (same i) next) (A.the-variants.Refused (OutOfRange at)))
-        ∙ ap (λ (v : ℤ). cond (inRange k v) (A.the-variants.Value z next) (A.the-variants.Refused (OutOfRange at))) same
+        ∙ ap (λ (v : ℤ). cond (allowed head k v) (A.the-variants.Value z next) (A.the-variants.Refused (OutOfRange at))) same
         ∙ by-units e
 
 -- ---- the place behind a datum
@@ -151,29 +151,29 @@ in-range-next : (t : Bool) (at next : ℕ) (y z : ℤ) {n : ℕ} → cond t (A.t
 in-range-next true at next y z e = cc
 in-range-next false at next y z e = never (cc)
 
-units-next : (k at next : ℕ) (u : U.Units) {z : ℤ} {n : ℕ} → ofUnits k at next u ≡ A.the-variants.Value z n → next ≡ n
-units-next k at next (U.the-variants.Are y) {z} e = in-range-next (inRange k y) at next y z e
-units-next k at next (U.the-variants.Refused why) e = never (cc)
+units-next : (head k at next : ℕ) (u : U.Units) {z : ℤ} {n : ℕ} → ofUnits head k at next u ≡ A.the-variants.Value z n → next ≡ n
+units-next head k at next (U.the-variants.Are y) {z} e = in-range-next (allowed head k y) at next y z e
+units-next head k at next (U.the-variants.Refused why) e = never (cc)
 
-pieces-next : (k at f next : ℕ) (x : P.Pieces) {z : ℤ} {n : ℕ} → ofRead k at (onPieces x (inForm f) next) ≡ A.the-variants.Value z n → next ≡ n
-pieces-next k at f next (P.the-variants.Bits b) e = units-next k at next (unitsOf (inForm f b) at) e
-pieces-next k at f next (P.the-variants.Bad place) e = never (cc)
+pieces-next : (head k at f next : ℕ) (x : P.Pieces) {z : ℤ} {n : ℕ} → ofRead head k at (onPieces x (inForm f) next) ≡ A.the-variants.Value z n → next ≡ n
+pieces-next head k at f next (P.the-variants.Bits b) e = units-next head k at next (unitsOf (inForm f b) at) e
+pieces-next head k at f next (P.the-variants.Bad place) e = never (cc)
 
-number-next : (s : List ℕ) (k at f : ℕ) (t : Bool) {z : ℤ} {n : ℕ} → ofRead k at (cond t (formAt f s (at + 1)) (R.the-variants.Bad at)) ≡ A.the-variants.Value z n → at + 1 + formPieces f ≡ n
+number-next : (head : ℕ) (s : List ℕ) (k at f : ℕ) (t : Bool) {z : ℤ} {n : ℕ} → ofRead head k at (cond t (formAt f s (at + 1)) (R.the-variants.Bad at)) ≡ A.the-variants.Value z n → at + 1 + formPieces f ≡ n
 unfolding formAt
-number-next s k at f true e = pieces-next k at f (at + 1 + formPieces f) (piecesAt s (at + 1) (formPieces f) 0) e
-number-next s k at f false e = never (cc)
+number-next head s k at f true e = pieces-next head k at f (at + 1 + formPieces f) (piecesAt s (at + 1) (formPieces f) 0) e
+number-next head s k at f false e = never (cc)
 
 -- a datum that is read ends where its form says
-pub value-behind : (s : List ℕ) (k at : ℕ) {z : ℤ} {n : ℕ} → valueAt s k at ≡ A.the-variants.Value z n → behindOf s at ≡ n
+pub value-behind : (head : ℕ) (s : List ℕ) (k at : ℕ) {z : ℤ} {n : ℕ} → valueAt head s k at ≡ A.the-variants.Value z n → behindOf s at ≡ n
 unfolding valueAt datumAt behindOf
-value-behind s k at {z} {n} = go (wordAt s at)
+value-behind head s k at {z} {n} = go (wordAt s at)
   where
     go : (w : Word) →
-        ofRead k at (ifDatum w (λ m form. cond (eqb m k) (formAt form s (at + 1)) (R.the-variants.Bad at)) (R.the-variants.Bad at)) ≡ A.the-variants.Value z n →
+        ofRead head k at (ifDatum w (λ m form. cond (eqb m k) (formAt form s (at + 1)) (R.the-variants.Bad at)) (R.the-variants.Bad at)) ≡ A.the-variants.Value z n →
         ifDatum w (λ m form. at + 1 + formPieces form) at ≡ n
     go (W.Head v) e = never (cc)
-    go (W.Datum m form) e = number-next s k at form (eqb m k) e
+    go (W.Datum m form) e = number-next head s k at form (eqb m k) e
     go (W.Piece b) e = never (cc)
     go (W.Position p) e = never (cc)
     go (W.Lower b) e = never (cc)

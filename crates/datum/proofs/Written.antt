@@ -25,7 +25,7 @@ use Rattle.whole.specs.declared.Whole as H
 use Rattle.whole.specs.Whole.{wholeOf}
 use Rattle.whole.specs.Stands.{StandsFor}
 use Rattle.whole.proofs.Stands.{stands}
-use Rattle.ranges.specs.Table.{inRange}
+use Rattle.ranges.specs.Table.{allowed}
 use Rattle.datum.specs.declared.Datum as D
 use Rattle.datum.specs.declared.Pieces as P
 use Rattle.datum.specs.declared.DatumRead as R
@@ -122,9 +122,9 @@ module _ (s : List ℕ) (k at f : ℕ) where
 
 -- ---- a datum in whole units, within its range
 
-value-in-range : (s : List ℕ) (k at : ℕ) {d : D.Datum} {next : ℕ} {z : ℤ} → datumAt s k at ≡ R.the-variants.Datum d next → unitsOf d at ≡ U.the-variants.Are z → T (inRange k z) →
-    valueAt s k at ≡ A.the-variants.Value z next
-value-in-range s k at {d} {next} {z} read units r = sym (by-units s k at read units) ∙ simp (is-true (inRange k z) r)
+value-in-range : (head : ℕ) (s : List ℕ) (k at : ℕ) {d : D.Datum} {next : ℕ} {z : ℤ} → datumAt s k at ≡ R.the-variants.Datum d next → unitsOf d at ≡ U.the-variants.Are z → T (allowed head k z) →
+    valueAt head s k at ≡ A.the-variants.Value z next
+value-in-range head s k at {d} {next} {z} read units r = sym (by-units head s k at read units) ∙ simp (is-true (allowed head k z) r)
 
 pub written-datum : {k : ℕ} {z : ℤ} {w : List ℕ} → Written k z w → (s : List ℕ) (at : ℕ) (rest : List ℕ) → drop at s ≡ w ++ rest →
     (d : D.Datum) × (datumAt s k at ≡ R.the-variants.Datum d (at + length w)) × (unitsOf d at ≡ U.the-variants.Are z)
@@ -133,9 +133,9 @@ written-datum {k} (whole {b = b} h p) s at rest e = (inForm 0 b, form-reads s k 
 written-datum {k} {z} (single {b = b} h p is) s at rest e = (inForm 1 b, form-reads s k at 1 rest h p e, ap (ofWhole at) (stands (ofBits binary32 b) z .1 is))
 written-datum {k} {z} (double {b = b} h p is) s at rest e = (inForm 2 b, form-reads s k at 2 rest h p e, ap (ofWhole at) (stands (ofBits binary64 b) z .1 is))
 
-pub written-reads : {k : ℕ} {z : ℤ} {w : List ℕ} → Written k z w → T (inRange k z) → (s : List ℕ) (at : ℕ) (rest : List ℕ) → drop at s ≡ w ++ rest →
-    valueAt s k at ≡ A.the-variants.Value z (at + length w)
-written-reads {k} h r s at rest e = let d = written-datum h s at rest e in value-in-range s k at (d .1) (d .2) r
+pub written-reads : (head : ℕ) {k : ℕ} {z : ℤ} {w : List ℕ} → Written k z w → T (allowed head k z) → (s : List ℕ) (at : ℕ) (rest : List ℕ) → drop at s ≡ w ++ rest →
+    valueAt head s k at ≡ A.the-variants.Value z (at + length w)
+written-reads head {k} h r s at rest e = let d = written-datum h s at rest e in value-in-range head s k at (d .1) (d .2) r
 
 -- the words of a datum that was read: those from `at` up to `next`
 pub record Wrote (s : List ℕ) (k at : ℕ) (z : ℤ) (next : ℕ) : Type 0 where
@@ -176,22 +176,22 @@ datum-written s k at d z next e₀ u₀ =
     by-number m f true q word e = let is = word ∙ ap (λ (i : ℕ). W.Datum i f) (eqb-true m k q) in by-form f is (form-written s k at f is e)
     by-number m f false q word e = never (cc)
 
-pub read-written : (s : List ℕ) (k at : ℕ) (z : ℤ) (next : ℕ) → valueAt s k at ≡ A.the-variants.Value z next → Wrote s k at z next × T (inRange k z)
+pub read-written : (head : ℕ) (s : List ℕ) (k at : ℕ) (z : ℤ) (next : ℕ) → valueAt head s k at ≡ A.the-variants.Value z next → Wrote s k at z next × T (allowed head k z)
 unfolding valueAt
-read-written s k at z next = by-read (datumAt s k at) refl
+read-written head s k at z next = by-read (datumAt s k at) refl
   where
-    by-range : (d : D.Datum) (n : ℕ) (y : ℤ) (t : Bool) → inRange k y ≡ t → datumAt s k at ≡ R.the-variants.Datum d n → unitsOf d at ≡ U.the-variants.Are y →
-        cond t (A.the-variants.Value y n) (A.the-variants.Refused (OutOfRange at)) ≡ A.the-variants.Value z next → Wrote s k at z next × T (inRange k z)
+    by-range : (d : D.Datum) (n : ℕ) (y : ℤ) (t : Bool) → allowed head k y ≡ t → datumAt s k at ≡ R.the-variants.Datum d n → unitsOf d at ≡ U.the-variants.Are y →
+        cond t (A.the-variants.Value y n) (A.the-variants.Refused (OutOfRange at)) ≡ A.the-variants.Value z next → Wrote s k at z next × T (allowed head k z)
     by-range d n y true q read u e =
         let value : y ≡ z = cc in
         let place : n ≡ next = cc in
-        (datum-written s k at d z next (read ∙ ap (R.the-variants.Datum d) place) (u ∙ ap U.the-variants.Are value), subst (λ (v : ℤ). T (inRange k v)) value (subst T (sym q) tt))
+        (datum-written s k at d z next (read ∙ ap (R.the-variants.Datum d) place) (u ∙ ap U.the-variants.Are value), subst (λ (v : ℤ). T (allowed head k v)) value (subst T (sym q) tt))
     by-range d n y false q read u e = never (cc)
 
-    by-unit : (d : D.Datum) (n : ℕ) (u : U.Units) → unitsOf d at ≡ u → datumAt s k at ≡ R.the-variants.Datum d n → ofUnits k at n u ≡ A.the-variants.Value z next → Wrote s k at z next × T (inRange k z)
-    by-unit d n (U.the-variants.Are y) q read e = by-range d n y (inRange k y) refl read q e
+    by-unit : (d : D.Datum) (n : ℕ) (u : U.Units) → unitsOf d at ≡ u → datumAt s k at ≡ R.the-variants.Datum d n → ofUnits head k at n u ≡ A.the-variants.Value z next → Wrote s k at z next × T (allowed head k z)
+    by-unit d n (U.the-variants.Are y) q read e = by-range d n y (allowed head k y) refl read q e
     by-unit d n (U.the-variants.Refused why) q read e = never (cc)
 
-    by-read : (x : R.DatumRead) → datumAt s k at ≡ x → ofRead k at x ≡ A.the-variants.Value z next → Wrote s k at z next × T (inRange k z)
+    by-read : (x : R.DatumRead) → datumAt s k at ≡ x → ofRead head k at x ≡ A.the-variants.Value z next → Wrote s k at z next × T (allowed head k z)
     by-read (R.the-variants.Datum d n) q e = by-unit d n (unitsOf d at) refl q e
     by-read (R.the-variants.Bad place) q e = never (cc)

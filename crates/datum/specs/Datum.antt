@@ -9,7 +9,7 @@ use Rattle.words.specs.Words.{wordAt, twos}
 use Rattle.words.specs.Cases.{ifDatum, ifPiece}
 use Rattle.whole.specs.declared.Whole as H
 use Rattle.whole.specs.Whole.{wholeOf}
-use Rattle.ranges.specs.Table.{inRange}
+use Rattle.ranges.specs.Table.{allowed}
 use Rattle.datum.specs.declared.Datum as D
 use Rattle.datum.specs.declared.Pieces as P
 use Rattle.datum.specs.declared.DatumRead as R
@@ -65,15 +65,15 @@ unitsOf (D.the-variants.Double x) at = ofWhole at (wholeOf x)
 unitsOf D.the-variants.Open at = U.the-variants.Refused (OpenDatum at)
 
 -- "datum out of range": at its kind 2 word; "per datum 1, 2, 3, 4"
-abbrev pub ofUnits : ℕ → ℕ → ℕ → U.Units → A.DatumAnswer
-ofUnits k at next (U.the-variants.Are z) = cond (inRange k z) (A.the-variants.Value z next) (A.the-variants.Refused (OutOfRange at))
-ofUnits k at next (U.the-variants.Refused why) = A.the-variants.Refused why
+abbrev pub ofUnits : ℕ → ℕ → ℕ → ℕ → U.Units → A.DatumAnswer
+ofUnits head k at next (U.the-variants.Are z) = cond (allowed head k z) (A.the-variants.Value z next) (A.the-variants.Refused (OutOfRange at))
+ofUnits head k at next (U.the-variants.Refused why) = A.the-variants.Refused why
 
 -- "list word missing, of wrong kind, number or bits": at that word
-abbrev pub ofRead : ℕ → ℕ → R.DatumRead → A.DatumAnswer
-ofRead k at (R.the-variants.Datum d next) = ofUnits k at next (unitsOf d at)
-ofRead k at (R.the-variants.Bad place) = A.the-variants.Refused (WrongWord place)
+abbrev pub ofRead : ℕ → ℕ → ℕ → R.DatumRead → A.DatumAnswer
+ofRead head k at (R.the-variants.Datum d next) = ofUnits head k at next (unitsOf d at)
+ofRead head k at (R.the-variants.Bad place) = A.the-variants.Refused (WrongWord place)
 
--- datum k at a place
-unfoldable pub valueAt : List ℕ → ℕ → ℕ → A.DatumAnswer
-valueAt s k at = ofRead k at (datumAt s k at)
+-- datum k at a place, of a list whose head says so many data
+unfoldable pub valueAt : ℕ → List ℕ → ℕ → ℕ → A.DatumAnswer
+valueAt head s k at = ofRead head k at (datumAt s k at)

@@ -139,14 +139,14 @@ pub fn resolve(d: Datum, at: usize) -> Units
     }
 }
 
-// Datum k in whole units, within its range; or its first fault.
-pub fn value_at(words: &[u32], k: usize, at: usize) -> DatumAnswer
-    ensures { λ r. ⌜ r ≡ valueAt (now (words .entry)) k at ⌝ }
+// Datum k of a list with this head in whole units, within its range; or its first fault.
+pub fn value_at(words: &[u32], head: usize, k: usize, at: usize) -> DatumAnswer
+    ensures { λ r. ⌜ r ≡ valueAt head (now (words .entry)) k at ⌝ }
 {
     match datum_at(words, k, at) {
         DatumRead::Datum(d, next) => match resolve(d, at) {
             Units::Are(z) => {
-                if ranges::in_range(k, z) {
+                if ranges::allowed(head, k, z) {
                     DatumAnswer::Value(z, next)
                 } else {
                     DatumAnswer::Refused(Refusal::OutOfRange(at))

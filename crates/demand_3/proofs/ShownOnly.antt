@@ -29,7 +29,8 @@ use Rattle.causes.specs.declared.Cause.{Cause}
 use Rattle.causes.specs.Causes.{strongestOf}
 use Rattle.state.specs.declared.State.{State}
 use Rattle.state.specs.declared.Given.{Given}
-use Rattle.judge.specs.Causes.{choiceIn, stepIn, faultIn, stopsIn, usableRows, rowsOf}
+use Rattle.direction.specs.Direction.{watchedOf}
+use Rattle.judge.specs.Causes.{choiceIn, watchedIn, stepIn, faultIn, stopsIn, usableRows, rowsOf}
 use Rattle.channel.specs.Cycle.{strongestIn, clearsIn, next}
 use Rattle.channel.specs.Word.{word}
 use Rattle.demand_3.specs.History.{history}
@@ -103,6 +104,10 @@ module _ (m : MachineData) (only : ShowsOnly m) (s : State) (g : Given) (t : Tur
   unfolding faultStops
   no-b = ap (λ (b : Bool). expired (faultIn m s g) && b) not-active ∙ and-false (expired (faultIn m s g))
 
+  not-watched : watchedIn m s g .overstepped ≡ false
+  unfolding watchedOf
+  not-watched = simp (only .no-direction)
+
   no-rank : strongestOf (usableRows m s g) ≡ None
   unfolding usableRows
   no-rank =
@@ -117,7 +122,7 @@ module _ (m : MachineData) (only : ShowsOnly m) (s : State) (g : Given) (t : Tur
       (not-standing (f X.E)
       (not-standing no-hold
       (unranked refl (unranked refl (unranked refl
-      (not-standing no-b none))))))))))))
+      (not-standing no-b (not-standing not-watched none)))))))))))))
 
   turning-next : T (usableOf m (g .reading)) → Turning (next m s g)
   unfolding next strongestIn rowsOf

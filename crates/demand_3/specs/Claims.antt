@@ -27,9 +27,9 @@ use Rattle.judge.specs.Causes.{rowsOf}
 use Rattle.channel.specs.Cycle.{clearsIn, enteredIn, next}
 use Rattle.device.specs.Device.{wordRank}
 
--- "A limit in force is overstepped where cause 2, 3 or 4 stands"
+-- "A limit in force is overstepped where cause 2, 3 or 4 stands"; W6: cause 14 "joins 2, 3 and 4 as a limit of demand 3"
 abbrev pub isLimit : ℕ → Bool
-isLimit x = eqb x 2 || eqb x 3 || eqb x 4
+isLimit x = eqb x 2 || eqb x 3 || eqb x 4 || eqb x 14
 
 -- cause x in the table of a cycle; one that does not stand where the table has none
 unfoldable pub causeOf : ℕ → List Cause → Cause
@@ -109,7 +109,7 @@ module _ (L : ℕ → MachineData) (S : ℕ → State) (G : ℕ → Given) where
 
   -- `size` cycles, and the words given in each
   pub record Claims (size : ℕ) (channel device : ℕ → ℕ) : Type 0 where
-    -- "A limit in force is overstepped where cause 2, 3 or 4 stands; the device rank is then at least that cause's rank"
+    -- "A limit in force is overstepped where cause 2, 3 or 4 stands", W6: or 14, "the device rank is then at least that cause's rank"
     pub overstepped : (n x : ℕ) → n < size → T (isLimit x) → Stands n x → rankNumber (causeIn n x .rank) ≤ rankInDevice (device n)
     -- "if C, D or E with time t is entered in n, the channel word has that rank and bit 27, or a greater rank, from n + t on"
     pub held-in-time : (n m : ℕ) (r : Rank) → m < size → 1 ≤ rankNumber r → rankNumber r ≤ 3 → entered n ≡ r → n + timeOf (L n .values) r ≤ m →

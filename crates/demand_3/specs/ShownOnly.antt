@@ -11,12 +11,13 @@ use Rattle.channel.specs.Word.{word}
 use Rattle.demand_3.specs.History.{history}
 use Rattle.demand_3.specs.Claims.{rankInWord}
 
--- "enables n<nx alone": SBH/SG, SE, cams and external stops are off
+-- "enables n<nx alone": SBH/SG, SE, cams, external stops and safe direction are off
 pub record ShowsOnly (m : MachineData) : Type 0 where
   pub no-sbh-sg : functionOf (m .values) 0 ≡ false
   pub no-se : functionOf (m .values) 1 ≡ false
   pub no-cams : functionOf (m .values) 2 ≡ false
   pub no-external : functionOf (m .values) 4 ≡ false
+  pub no-direction : functionOf (m .values) 5 ≡ false
 
 -- from a fresh channel on, as long as every cycle is usable, its word has rank 0, whatever the reports and whether F is on
 abbrev pub KeepsTurning : Type 0

@@ -9,7 +9,7 @@ use Rattle.state.specs.declared.State.{State}
 use Rattle.image.specs.Image.{channelFrom}
 use Rattle.image.specs.Written.{Written, writtenAs, writing}
 
-whole-count : (n : ℕ) → n < 4294967296 → n % 4294967296 ≡ n
+pub whole-count : (n : ℕ) → n < 4294967296 → n % 4294967296 ≡ n
 whole-count n h = omega arith
 
 -- a state written behind a list's count

@@ -1,18 +1,29 @@
 -- A channel's image: the words that its state and the count of its list are kept in, beside its data.
-use Prim.Native.Nat.{ℕ, _%_, _<_}
-use mathlib.Core.List.{List, [], _∷_}
+use Prim.Native.Nat.{ℕ, zero, suc, _%_, _<_}
+use mathlib.Core.List.{List, [], _∷_, _++_}
 use lib.ListN.{getD}
 use lib.IntN.{ℤ}
 use Rattle.machine_data.specs.declared.MachineData.{MachineData}
 use Rattle.machine_data.specs.Data.{lent}
+use Rattle.direction.specs.declared.Directions.{Directions}
 use Rattle.state.specs.declared.State.{State}
 use Rattle.channel.specs.declared.Channel.{Channel}
 use Rattle.crossing.specs.Words.{signedOf, unsignedOf, Signed, yesFrom, yesWord}
-use Rattle.image_cases.specs.Cases.{previousFrom, previousWords, PreviousFits, selectionFrom, selectionWords, SelectionFits, stopFrom, stopWords, StopFits}
+use Rattle.image_cases.specs.Cases.{previousFrom, previousWords, PreviousFits, watchFrom, watchWords, WatchFits, selectionFrom, selectionWords, SelectionFits, stopFrom, stopWords, StopFits}
 
 -- how many data the list has: word 0; 0 where there is no list
 abbrev pub countFrom : List ℕ → ℕ
 countFrom w = getD w 0 0
+
+-- the directions that words stand for
+abbrev pub directionsFrom : List ℕ → Directions
+directionsFrom w =
+    record {
+      -- words 19 to 21, of the positive direction, the usable cycles running in which its bit was 0, and its watch
+      positive = record { run = getD w 19 0; watch = watchFrom (getD w 20 0) (getD w 21 0) };
+      -- words 22 to 24, of the negative one
+      negative = record { run = getD w 22 0; watch = watchFrom (getD w 23 0) (getD w 24 0) };
+    }
 
 -- the state that words stand for, whatever they are
 unfoldable pub stateFrom : List ℕ → State
@@ -41,6 +52,7 @@ stateFrom w =
             fault = record { on = yesFrom (getD w 11 0); left = getD w 12 0 };
             -- word 17, the value of n<nx, and word 18, the usable cycles running in which the speed was below nx
             nx = record { run = getD w 18 0; on = yesFrom (getD w 17 0) };
+            directions = directionsFrom w;
           };
       -- words 13 to 15
       stop = stopFrom (getD w 13 0) (getD w 14 0) (getD w 15 0);
@@ -48,9 +60,9 @@ stateFrom w =
       previous = previousFrom (getD w 2 0) (getD w 3 0);
     }
 
--- the words of a count and a state, in the order of their places
-unfoldable pub stateWords : ℕ → State → List ℕ
-stateWords count s =
+-- the words of a count and a state, in the order of their places: 0 to 18
+abbrev pub frontWords : ℕ → State → List ℕ
+frontWords count s =
     let previous = previousWords (s .previous) in
     let choice = s .kept .choice in
     let effective = selectionWords (choice .effective) in
@@ -76,6 +88,32 @@ stateWords count s =
     ∷ s .kept .nx .run
     ∷ []
 
+-- those of the directions: 19 to 24
+abbrev pub directionWords : Directions → List ℕ
+directionWords x =
+    x .positive .run
+    ∷ watchWords (x .positive .watch) .kind
+    ∷ watchWords (x .positive .watch) .first
+    ∷ x .negative .run
+    ∷ watchWords (x .negative .watch) .kind
+    ∷ watchWords (x .negative .watch) .first
+    ∷ []
+
+-- all of them
+unfoldable pub stateWords : ℕ → State → List ℕ
+stateWords count s = frontWords count s ++ directionWords (s .kept .directions)
+
+-- n words as they stand, from a place on
+abbrev pub wordsFrom : List ℕ → ℕ → ℕ → List ℕ
+wordsFrom w at zero = []
+wordsFrom w at (suc n) = getD w at 0 ∷ wordsFrom w (suc at) n
+
+abbrev pub frontIn : List ℕ → List ℕ
+frontIn w = wordsFrom w 0 19
+
+abbrev pub directionsIn : List ℕ → List ℕ
+directionsIn w = wordsFrom w 19 6
+
 -- the list that data and words stand for
 abbrev pub listFrom : List ℤ → List ℕ → MachineData
 listFrom values w = lent values (countFrom w)
@@ -93,3 +131,7 @@ pub record Fits (s : State) : Type 0 where
   pub reference : Signed (s .kept .choice .reference)
   pub stop : StopFits (s .stop)
   pub previous : PreviousFits (s .previous)
+
+pub record DirectionsFit (x : Directions) : Type 0 where
+  pub positive : WatchFits (x .positive .watch)
+  pub negative : WatchFits (x .negative .watch)

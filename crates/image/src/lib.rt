@@ -1,17 +1,19 @@
-// A channel's state as 19 words of 32 bits, and back: what a program keeps of a channel that crosses into its memory. Every
+// A channel's state as 25 words of 32 bits, and back: what a program keeps of a channel that crosses into its memory. Every
 // content of the words stands for some state.
 ghost use mathlib.Core.Path.{_≡_};
 ghost use Prim.Native.Nat.{_<_};
 ghost use Rattle.image.specs.Image.{countFrom, stateFrom};
-ghost use Rattle.image.specs.Written.{writtenAs, writing};
+ghost use Rattle.image.specs.Written.{writtenAs, writing, writingFront, directionsAs, writingDirections};
 use comparison::Fault;
+use direction::Direction;
+use direction::Directions;
 use nx_signal::Signal;
 use selection::Choice;
 use state::Kept;
 use state::State;
 
 // How many words an image has.
-pub const WORDS: usize = 19;
+pub const WORDS: usize = 25;
 
 // The words of a channel's state, as they are lent.
 pub type Image = [u32; WORDS];
@@ -47,15 +49,33 @@ pub fn state_from(words: &Image) -> State
                 run: words[18],
                 on: crossing::yes(words[17]),
             },
+            directions: Directions {
+                positive: Direction {
+                    run: words[19],
+                    watch: image_cases::watch_from(words[20], words[21]),
+                },
+                negative: Direction {
+                    run: words[22],
+                    watch: image_cases::watch_from(words[23], words[24]),
+                },
+            },
         },
         stop: image_cases::stop_from(words[13], words[14], words[15]),
         previous: image_cases::previous_from(words[2], words[3]),
     }
 }
 
-// The words of a count and a state; a count of 2^32 or more, which no list has, is kept modulo 2^32.
-pub fn words_of(count: usize, state: State) -> Image
-    ensures { λ r. ⌜ writtenAs r ≡ writing count state ⌝ }
+// k alone, for a report.
+pub fn k_of(words: &Image) -> u8
+    ensures { λ r. ⌜ r ≡ stateFrom (now (words .entry)) .k ⌝ }
+{
+    (words[1] % 256) as u8
+}
+
+// The words of a count and a state but for its directions, whose words stay; a count of 2^32 or more, which no list has, is kept
+// modulo 2^32.
+pub fn put_front(count: usize, state: State, words: &mut Image)
+    ensures { λ _. ⌜ writtenAs (now (words .exit)) ≡ writingFront count state (now (words .entry)) ⌝ }
 {
     let kept = state.kept;
     let choice = kept.choice;
@@ -67,7 +87,7 @@ pub fn words_of(count: usize, state: State) -> Image
     let effective = image_cases::selection_words(selection);
     let held = state.stop;
     let stop = image_cases::stop_words(held);
-    [
+    *words = [
         (count % 4294967296) as u32,
         state.k as u32,
         before.kind,
@@ -87,5 +107,62 @@ pub fn words_of(count: usize, state: State) -> Image
         kept.cams,
         crossing::yes_word(nx.on),
         nx.run,
-    ]
+        words[19],
+        words[20],
+        words[21],
+        words[22],
+        words[23],
+        words[24],
+    ];
+}
+
+// The words of the directions; the others stay.
+pub fn put_directions(directions: Directions, words: &mut Image)
+    ensures { λ _. ⌜ directionsAs (now (words .exit)) ≡ writingDirections directions (now (words .entry)) ⌝ }
+{
+    let positive = directions.positive;
+    let negative = directions.negative;
+    let rising = positive.watch;
+    let falling = negative.watch;
+    let up = image_cases::watch_words(rising);
+    let down = image_cases::watch_words(falling);
+    *words = [
+        words[0],
+        words[1],
+        words[2],
+        words[3],
+        words[4],
+        words[5],
+        words[6],
+        words[7],
+        words[8],
+        words[9],
+        words[10],
+        words[11],
+        words[12],
+        words[13],
+        words[14],
+        words[15],
+        words[16],
+        words[17],
+        words[18],
+        positive.run,
+        up.kind,
+        up.first,
+        negative.run,
+        down.kind,
+        down.first,
+    ];
+}
+
+// All words of a count and a state.
+pub fn words_of(count: usize, state: State) -> Image
+    ensures { λ r. ⌜ writtenAs r ≡ writing count state ⌝ }
+{
+    let mut words = [0u32; WORDS];
+    let kept = state.kept;
+    let directions = kept.directions;
+    put_directions(directions, &mut words);
+    put_front(count, state, &mut words);
+    words
 }

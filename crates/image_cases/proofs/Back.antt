@@ -2,6 +2,8 @@
 use mathlib.Core.Path.{_≡_, refl, ap}
 use Prim.Native.Nat.{ℕ, _%_, _<_}
 use native.Mathlib.Omega.{arith}
+use Rattle.direction.specs.declared.Watch.{Watch}
+use Rattle.direction.specs.declared.Watch.the-variants.{Off, From}
 use Rattle.distance.specs.declared.Previous.{Previous}
 use Rattle.distance.specs.declared.Previous.the-variants.{Absent, At}
 use Rattle.selection.specs.declared.Selection.{Selection}
@@ -10,7 +12,7 @@ use Rattle.rank.proofs.Laws.{number-rankFrom}
 use Rattle.stop.specs.declared.Stop.{Stop}
 use Rattle.stop.specs.declared.Stop.the-variants.{Free, Braking, Held, Cancelled}
 use Rattle.crossing.proofs.Back.{signed-back}
-use Rattle.image_cases.specs.Cases.{previousFrom, previousWords, PreviousFits, selectionFrom, selectionWords, SelectionFits, stopFrom, stopWords, StopFits}
+use Rattle.image_cases.specs.Cases.{previousFrom, previousWords, PreviousFits, watchFrom, watchWords, WatchFits, selectionFrom, selectionWords, SelectionFits, stopFrom, stopWords, StopFits}
 
 pub byte-back : (n : ℕ) → n < 256 → n % 256 ≡ n
 byte-back n h = omega arith
@@ -18,6 +20,10 @@ byte-back n h = omega arith
 pub previous-back : (p : Previous) → PreviousFits p → previousFrom (previousWords p .kind) (previousWords p .first) ≡ p
 previous-back Absent h = refl
 previous-back (At position) h = ap At (signed-back position h)
+
+pub watch-back : (w : Watch) → WatchFits w → watchFrom (watchWords w .kind) (watchWords w .first) ≡ w
+watch-back Off h = refl
+watch-back (From extreme) h = ap From (signed-back extreme h)
 
 pub selection-back : (s : Selection) → SelectionFits s → selectionFrom (selectionWords s .kind) (selectionWords s .first) (selectionWords s .second) ≡ s
 selection-back Nothing h = refl

@@ -3,6 +3,7 @@ use Prim.Native.Nat.{ℕ, _%_, _<_}
 use mathlib.Core.Bool.{cond}
 use lib.Dec.{eqb}
 use Rattle.crossing.specs.Words.{signedOf, unsignedOf, Signed}
+use Rattle.direction.specs.declared.Watch as D
 use Rattle.distance.specs.declared.Previous.{Previous}
 use Rattle.distance.specs.declared.Previous.the-variants.{Absent, At}
 use Rattle.selection.specs.declared.Selection.{Selection}
@@ -24,6 +25,19 @@ previousWords (At position) = record { kind = 1; first = unsignedOf position; se
 abbrev pub PreviousFits : Previous → Type 0
 PreviousFits Absent = Unit {0}
 PreviousFits (At position) = Signed position
+
+-- ---- the watch of a direction: its extreme
+
+abbrev pub watchFrom : ℕ → ℕ → D.Watch
+watchFrom kind extreme = cond (eqb kind 0) D.the-variants.Off (D.the-variants.From (signedOf extreme))
+
+abbrev pub watchWords : D.Watch → Case
+watchWords D.the-variants.Off = record { kind = 0; first = 0; second = 0 }
+watchWords (D.the-variants.From extreme) = record { kind = 1; first = unsignedOf extreme; second = 0 }
+
+abbrev pub WatchFits : D.Watch → Type 0
+WatchFits D.the-variants.Off = Unit {0}
+WatchFits (D.the-variants.From extreme) = Signed extreme
 
 -- ---- a selection: an SG's number less one and its override's number are bytes
 

@@ -1,7 +1,8 @@
 // The sums of a channel's state as words of 32 bits, and back: the number of a value's case, and what it holds. Every content of
 // the words stands for some value.
 ghost use mathlib.Core.Path.{_≡_};
-ghost use Rattle.image_cases.specs.Cases.{previousFrom, previousWords, PreviousFits, selectionFrom, selectionWords, SelectionFits, stopFrom, stopWords, StopFits};
+ghost use Rattle.image_cases.specs.Cases.{previousFrom, previousWords, PreviousFits, watchFrom, watchWords, WatchFits, selectionFrom, selectionWords, SelectionFits, stopFrom, stopWords, StopFits};
+use direction::Watch;
 use distance::Previous;
 use rank::Rank;
 use selection::Selection;
@@ -38,6 +39,35 @@ pub fn previous_words(previous: Previous) -> Case
         Previous::At(position) => Case {
             kind: 1,
             first: crossing::unsigned(position),
+            second: 0,
+        },
+    }
+}
+
+// The watch that words stand for.
+pub fn watch_from(kind: u32, extreme: u32) -> Watch
+    ensures { λ r. ⌜ r ≡ watchFrom kind extreme ⌝ }
+{
+    match kind {
+        0 => Watch::Off,
+        _ => Watch::From(crossing::signed(extreme)),
+    }
+}
+
+// The words of a watch.
+pub fn watch_words(watch: Watch) -> Case
+    ensures { λ r. ⌜ r ≡ watchWords watch ⌝ }
+    ensures { λ _. ⌜ WatchFits watch ⌝ }
+{
+    match watch {
+        Watch::Off => Case {
+            kind: 0,
+            first: 0,
+            second: 0,
+        },
+        Watch::From(extreme) => Case {
+            kind: 1,
+            first: crossing::unsigned(extreme),
             second: 0,
         },
     }

@@ -1,4 +1,4 @@
--- The input word: document 01, "Input word, bytes 22, 23, 32, 33 of DB31, 22 lowest", and W1.
+-- The input word: document 01, "Input word, bytes 22, 23, 32, 33 of DB31, 22 lowest", W1 and W6.
 use Prim.Native.Nat.{ℕ, _+_, _/_, _%_, _^_}
 use mathlib.Core.Bool.{Bool}
 use Rattle.bits.specs.Bits.{bitOf, fieldOf}
@@ -25,6 +25,17 @@ gearNumber w = fieldOf w 8 8
 abbrev pub se2Chosen : ℕ → Bool
 se2Chosen w = bitOf w 12
 
+-- W6: "input bits 13 and 14, when 0, allow only positive and only negative travel": that one is de-selected
+abbrev pub positiveOnlyOff : ℕ → Bool
+positiveOnlyOff w = bitOf w 13
+
+abbrev pub negativeOnlyOff : ℕ → Bool
+negativeOnlyOff w = bitOf w 14
+
+-- both bits as one number
+abbrev pub directionBits : ℕ → ℕ
+directionBits w = fieldOf w 13 4
+
 -- "18-21 external STOP A, C, D, E de-selected"
 abbrev pub externalOff : ℕ → External → Bool
 externalOff w A = bitOf w 18
@@ -36,6 +47,6 @@ externalOff w E = bitOf w 21
 abbrev pub overrideNumber : ℕ → ℕ
 overrideNumber w = fieldOf w 28 16
 
--- "Every other bit": 2, 5 to 7, 11, 13 to 17 and 22 to 27; 0 if each of them is
+-- "Every other bit": 2, 5 to 7, 11, 15 to 17 and 22 to 27; 0 if each of them is
 abbrev pub spareOf : ℕ → ℕ
-spareOf w = w / 2 ^ 2 % 2 ^ 1 + w / 2 ^ 5 % 2 ^ 3 + w / 2 ^ 11 % 2 ^ 1 + w / 2 ^ 13 % 2 ^ 5 + w / 2 ^ 22 % 2 ^ 6
+spareOf w = w / 2 ^ 2 % 2 ^ 1 + w / 2 ^ 5 % 2 ^ 3 + w / 2 ^ 11 % 2 ^ 1 + w / 2 ^ 15 % 2 ^ 3 + w / 2 ^ 22 % 2 ^ 6

@@ -1,4 +1,4 @@
--- Usable inputs: document 01, "Safe inputs and reports", and W1; and the ratio that they pick.
+-- Usable inputs: document 01, "Safe inputs and reports", W1 and W6; and the ratio that they pick.
 use Prim.Native.Nat.{ℕ}
 use mathlib.Core.Bool.{Bool, _&&_, _||_}
 use mathlib.Core.List.{List}
@@ -6,21 +6,21 @@ use lib.IntN.{ℤ, natAbs}
 use lib.Dec.{leb, eqb}
 use Rattle.machine_data.specs.declared.MachineData.{MachineData}
 use Rattle.machine_data.specs.declared.Ratio.{Ratio}
-use Rattle.machine_data.specs.Data.{ratioOf, hasRatios}
+use Rattle.machine_data.specs.Data.{ratioOf, hasRatios, functionOf}
 use Rattle.inputs.specs.declared.Reading.{Reading}
-use Rattle.inputs.specs.Layout.{gearNumber, spareOf}
+use Rattle.inputs.specs.Layout.{gearNumber, directionBits, spareOf}
 
 -- a group of bits that only some lists give a meaning: the others must have it 0
 abbrev pub free : Bool → ℕ → Bool
 free allowed group = allowed || eqb group 0
 
--- "Every other bit must be 0"; W1: of a list headed 51 "bits 8 to 10 being 0 as before"
-unfoldable pub bitsUsable : ℕ → ℕ → Bool
-bitsUsable count w = eqb (spareOf w) 0 && free (hasRatios count) (gearNumber w)
+-- "Every other bit must be 0"; W6, of bits 13 and 14: "With bit 5 off both must be 0"; W1: of a list headed 51 "bits 8 to 10 being 0 as before"
+unfoldable pub bitsUsable : MachineData → ℕ → Bool
+bitsUsable m w = eqb (spareOf w) 0 && free (functionOf (m .values) 5) (directionBits w) && free (hasRatios (m .count)) (gearNumber w)
 
 -- "Inputs are unusable if one is not, or if the position lies outside ±100,000,000": of a channel with a list
 unfoldable pub usableOf : MachineData → Reading → Bool
-usableOf m r = leb (natAbs (r .position)) 100_000_000 && bitsUsable (m .count) (r .inputs)
+usableOf m r = leb (natAbs (r .position)) 100_000_000 && bitsUsable m (r .inputs)
 
 -- W1: "Input bits 8 to 10 pick one of eight ratios"
 abbrev pub ratioIn : List ℤ → ℕ → Ratio

@@ -1,12 +1,13 @@
 // The input word by its fields, and whether what a channel is given in a cycle can be used.
 ghost use mathlib.Core.Path.{_≡_};
 ghost use lib.Dec.{eqb};
-ghost use Rattle.machine_data.specs.Data.{hasRatios, lent};
-ghost use Rattle.inputs.specs.Layout.{sbhSgOff, sbhOff, sgNumber, gearNumber, se2Chosen, externalOff, overrideNumber, spareOf};
+ghost use Rattle.machine_data.specs.Data.{hasRatios, functionOf, lent};
+ghost use Rattle.inputs.specs.Layout.{sbhSgOff, sbhOff, sgNumber, gearNumber, se2Chosen, positiveOnlyOff, negativeOnlyOff, directionBits, externalOff, overrideNumber, spareOf};
 ghost use Rattle.inputs.specs.Usable.{free, bitsUsable, usableOf, ratioIn};
 use machine_data::Ratio;
 use machine_data::Values;
-use machine_data::heads;
+use machine_data::functions;
+use ranges::heads;
 
 // A channel's own position and input word.
 pub struct Reading {
@@ -61,6 +62,20 @@ pub fn se2_chosen(w: u32) -> bool
     bits::bit(w, 12)
 }
 
+// Whether travel is not bound to the positive direction.
+pub fn positive_only_off(w: u32) -> bool
+    ensures { λ r. ⌜ r ≡ positiveOnlyOff w ⌝ }
+{
+    bits::bit(w, 13)
+}
+
+// Whether travel is not bound to the negative direction.
+pub fn negative_only_off(w: u32) -> bool
+    ensures { λ r. ⌜ r ≡ negativeOnlyOff w ⌝ }
+{
+    bits::bit(w, 14)
+}
+
 pub fn external_off(w: u32, stop: External) -> bool
     ensures { λ r. ⌜ r ≡ externalOff w stop ⌝ }
 {
@@ -91,7 +106,7 @@ fn spare_off(w: u32) -> bool
     if w / 2048 % 2 != 0 {
         return false;
     }
-    if w / 8192 % 32 != 0 {
+    if w / 32768 % 8 != 0 {
         return false;
     }
     w / 4194304 % 64 == 0
@@ -108,12 +123,27 @@ fn gear_usable(count: usize, w: u32) -> bool
     }
 }
 
-// Whether all bits of an input word that a list of so many data gives no meaning are 0.
-fn bits_usable(count: usize, w: u32) -> bool
-    ensures { λ r. ⌜ r ≡ bitsUsable count w ⌝ }
+// Whether the bits of safe direction may stand as they do: without the function both are 0.
+fn direction_usable(values: &Values, w: u32) -> bool
+    ensures { λ r. ⌜ r ≡ free (functionOf (now (values .entry)) 5) (directionBits w) ⌝ }
+{
+    if machine_data::function(values, functions::DIRECTION) {
+        true
+    } else {
+        w / 8192 % 4 == 0
+    }
+}
+
+// Whether all bits of an input word that a list gives no meaning are 0.
+fn bits_usable(values: &Values, count: usize, w: u32) -> bool
+    ensures { λ r. ⌜ r ≡ bitsUsable (lent (now (values .entry)) count) w ⌝ }
 {
     if spare_off(w) {
-        gear_usable(count, w)
+        if direction_usable(values, w) {
+            gear_usable(count, w)
+        } else {
+            false
+        }
     } else {
         false
     }
@@ -126,5 +156,5 @@ pub fn usable(values: &Values, count: usize, reading: Reading) -> bool
     if 100000000 < distance::magnitude(reading.position as i64) {
         return false;
     }
-    bits_usable(count, reading.inputs)
+    bits_usable(values, count, reading.inputs)
 }

@@ -1,4 +1,4 @@
--- Steps 2 to 4 of a cycle: what moved, what is effective, and the table of causes. Document 01, "One cycle of a channel"; and n<nx, W3.
+-- Steps 2 to 4 of a cycle: what moved, what is effective, and the table of causes. Document 01, "One cycle of a channel", W2 and W6; and n<nx, W3.
 use Prim.Native.Nat.{ℕ}
 use mathlib.Core.Bool.{Bool, cond, _||_}
 use mathlib.Core.List.{List, [], _∷_}
@@ -18,6 +18,8 @@ use Rattle.selection.specs.declared.Choice.{Choice}
 use Rattle.selection.specs.Selection.{selectedOf, choiceNext}
 use Rattle.rank.specs.declared.Rank.the-variants as R
 use Rattle.stop.specs.declared.Stop.{Stop}
+use Rattle.direction.specs.declared.Watched.{Watched}
+use Rattle.direction.specs.Direction.{watchedOf, directionRank}
 use Rattle.comparison.specs.declared.Fault.{Fault}
 use Rattle.comparison.specs.Comparison.{positionDiffers, runOf, inputsDiffer, faultNext}
 use Rattle.active.specs.Active.{faultStops}
@@ -25,6 +27,7 @@ use Rattle.causes.specs.declared.Cause.{Cause}
 use Rattle.causes.specs.Causes.{cause, unusableTable, summaryOf}
 use Rattle.state.specs.declared.State.{State}
 use Rattle.state.specs.declared.Given.{Given}
+use Rattle.judge.specs.declared.Begun.{Begun}
 use Rattle.judge.specs.declared.Differences.{Differences}
 use Rattle.judge.specs.declared.Findings.{Findings}
 
@@ -42,6 +45,10 @@ signalIn m s g = signalNext (m .values) (stepIn m s g) (s .kept .nx)
 -- step 3: the choice that this cycle's selection makes
 unfoldable pub choiceIn : MachineData → State → Given → Choice
 choiceIn m s g = choiceNext (m .values) (s .kept .choice) (selectedOf (m .values) (g .reading .inputs)) (g .reading .position)
+
+-- W6: the directions' runs and watches, as this cycle leaves them, and whether one is overstepped
+abbrev pub watchedIn : MachineData → State → Given → Watched
+watchedIn m s g = watchedOf (m .values) (g .reading) (s .kept .directions)
 
 -- the run of differing input words, as this cycle leaves it
 unfoldable pub differingIn : State → Given → ℕ
@@ -69,9 +76,9 @@ abbrev pub stopsIn : MachineData → State → Given → Bool
 stopsIn m s g = faultStops (m .values) (choiceIn m s g .effective) (faultIn m s g)
 
 -- step 4, "Causes (2 and 3 by the effective selection)", each with its rank: of the data d, the standing stop, a reading, the choice x, the step, what
--- differs, and whether F brings STOP B. 10, 11 and 12 have no rank of their own
-abbrev pub table : List ℤ → Stop → Reading → Choice → Step → Differences → Bool → List Cause
-table d stop r x step differs stops =
+-- differs, whether F brings STOP B, and whether a direction is overstepped. 10, 11 and 12 have no rank of their own
+abbrev pub table : List ℤ → Stop → Reading → Choice → Step → Differences → Bool → Bool → List Cause
+table d stop r x step differs stops overstepped =
     -- "2 SBH, distance from reference over datum 2, rank 4"
     cause 2 (standstillLeft d x (r .position)) R.B
     -- "3 SG, |d| × 6000 > limit × percent × T, rank by datum"
@@ -91,12 +98,14 @@ table d stop r x step differs stops =
     ∷ cause 12 (differs .datum) R.None
     -- "at 0, with F on, stands cause 13, rank 4", W2: "only in cycles where SBH or SG is effective, or SE or cams are enabled"
     ∷ cause 13 stops R.B
+    -- W6: "Positive-only is overstepped .., and the negative is its mirror; this is cause 14, fresh"; "Cause 14 has the rank of datum 71"
+    ∷ cause 14 overstepped (directionRank d)
     ∷ []
 
 -- the table of a usable cycle
 unfoldable pub usableRows : MachineData → State → Given → List Cause
 usableRows m s g =
-    table (m .values) (s .stop) (g .reading) (choiceIn m s g) (stepIn m s g) (differencesIn m s g) (stopsIn m s g)
+    table (m .values) (s .stop) (g .reading) (choiceIn m s g) (stepIn m s g) (differencesIn m s g) (stopsIn m s g) (watchedIn m s g .overstepped)
 
 -- "Unusable: cause 1, rank 5"; else the table of step 4
 unfoldable pub rowsOf : MachineData → State → Given → List Cause
@@ -109,8 +118,50 @@ findingsOf m s g =
       step = stepIn m s g;
       nx = signalIn m s g;
       choice = choiceIn m s g;
+      directions = watchedIn m s g .directions;
       differing = differingIn s g;
       fault = faultIn m s g;
       rows = usableRows m s g;
       summary = summaryOf (usableRows m s g);
+    }
+
+-- ---- the same in parts, as the code has them: what needs none of the causes, and the causes by it and by the directions. proofs/Parts.antt puts them together
+
+abbrev pub begunOf : List ℤ → State → Given → Begun
+begunOf d s g =
+    let step = stepOf d (s .previous) (g .reading) in
+    record {
+      step = step;
+      nx = signalNext d step (s .kept .nx);
+      choice = choiceNext d (s .kept .choice) (selectedOf d (g .reading .inputs)) (g .reading .position);
+      differing = runOf (s .kept .differing) (g .reading) (g .report);
+    }
+
+abbrev pub differencesBy : MachineData → State → Given → ℕ → Differences
+differencesBy m s g differing =
+    record {
+      position = positionDiffers (m .values) (g .reading) (g .report);
+      inputs = inputsDiffer (m .values) differing;
+      datum = datumDiffers m (s .k) (g .report);
+    }
+
+abbrev pub faultBy : MachineData → State → Given → ℕ → Fault
+faultBy m s g differing = faultNext (m .values) (anyDiffers (differencesBy m s g differing)) (s .kept .fault)
+
+abbrev pub rowsBy : MachineData → State → Given → Begun → Bool → List Cause
+rowsBy m s g b overstepped =
+    table (m .values) (s .stop) (g .reading) (b .choice) (b .step) (differencesBy m s g (b .differing))
+    (faultStops (m .values) (b .choice .effective) (faultBy m s g (b .differing))) overstepped
+
+abbrev pub findingsBy : MachineData → State → Given → Begun → Watched → Findings
+findingsBy m s g b w =
+    record {
+      step = b .step;
+      nx = b .nx;
+      choice = b .choice;
+      directions = w .directions;
+      differing = b .differing;
+      fault = faultBy m s g (b .differing);
+      rows = rowsBy m s g b (w .overstepped);
+      summary = summaryOf (rowsBy m s g b (w .overstepped));
     }

@@ -1,11 +1,13 @@
 // Steps 2 to 4 of a usable cycle: what moved, what is effective, and the table of causes.
 ghost use mathlib.Core.Path.{_≡_};
 ghost use Rattle.machine_data.specs.Data.{lent};
-ghost use Rattle.judge.specs.Causes.{stepOf, anyDiffers, table, findingsOf};
+ghost use Rattle.judge.specs.Causes.{stepOf, anyDiffers, table, begunOf, findingsBy, findingsOf};
 use causes::Cause;
 use causes::Rows;
 use causes::Summary;
 use comparison::Fault;
+use direction::Directions;
+use direction::Watched;
 use distance::Previous;
 use inputs::External;
 use inputs::Reading;
@@ -18,16 +20,25 @@ use state::Given;
 use state::State;
 use stop::Stop;
 
-// What steps 2 to 4 come to: the step, what this cycle leaves of n<nx, the choice, the run and F, the causes, and what step 5 asks
-// of them. n<nx stands here, though it is of step 6, so that the step's products, which the causes need too, are worked out once.
+// What steps 2 to 4 come to: the step, what this cycle leaves of n<nx, the choice, the directions, the run and F, the causes, and
+// what step 5 asks of them. n<nx stands here, though it is of step 6, so that the step's products, which the causes need too, are worked out once.
 pub struct Findings {
     pub step: Step,
     pub nx: Signal,
     pub choice: Choice,
+    pub directions: Directions,
     pub differing: u32,
     pub fault: Fault,
     pub rows: Rows,
     pub summary: Summary,
+}
+
+// What steps 2 and 3 come to, with n<nx and the run of differing inputs.
+pub struct Begun {
+    pub step: Step,
+    pub nx: Signal,
+    pub choice: Choice,
+    pub differing: u32,
 }
 
 // In what a channel and the report differ: causes 10, 11 and 12.
@@ -70,8 +81,9 @@ fn rows(
     step: Step,
     differs: Differences,
     stops: bool,
+    overstepped: bool,
 ) -> Rows
-    ensures { λ r. ⌜ r ≡ table (now (values .entry)) stop reading choice step differs stops ⌝ }
+    ensures { λ r. ⌜ r ≡ table (now (values .entry)) stop reading choice step differs stops overstepped ⌝ }
 {
     let effective = choice.effective;
     [
@@ -135,27 +147,59 @@ fn rows(
             stands: stops,
             rank: Rank::B,
         },
+        Cause {
+            code: 14,
+            stands: overstepped,
+            rank: direction::rank(values),
+        },
     ]
 }
 
-pub fn judge(values: &Values, count: usize, state: State, given: Given) -> Findings
-    ensures { λ r. ⌜ r ≡ findingsOf (lent (now (values .entry)) count) state given ⌝ }
+// Steps 2 and 3, n<nx, and the run of differing inputs: what needs none of the causes.
+pub fn begin(values: &Values, state: State, given: Given) -> Begun
+    ensures { λ r. ⌜ r ≡ begunOf (now (values .entry)) state given ⌝ }
 {
     let reading = given.reading;
     let report = given.report;
     let previous = state.previous;
     let kept = state.kept;
     let before = kept.choice;
-    let fault = kept.fault;
-    let stop = state.stop;
     let signal = kept.nx;
     let step = step_of(values, previous, reading);
     let nx = signal.next(values, step);
     let choice = before.next(values, selection::selected(values, reading.inputs), reading);
     let differing = comparison::run(kept.differing, reading, report);
+    Begun {
+        step,
+        nx,
+        choice,
+        differing,
+    }
+}
+
+// Step 4, by what was begun and by the directions' watches.
+pub fn finish(
+    values: &Values,
+    count: usize,
+    state: State,
+    given: Given,
+    begun: Begun,
+    watched: Watched,
+) -> Findings
+    ensures { λ r. ⌜ r ≡ findingsBy (lent (now (values .entry)) count) state given begun watched ⌝ }
+{
+    let reading = given.reading;
+    let report = given.report;
+    let kept = state.kept;
+    let fault = kept.fault;
+    let stop = state.stop;
+    let step = begun.step;
+    let nx = begun.nx;
+    let choice = begun.choice;
+    let directions = watched.directions;
     let differs = Differences {
         position: comparison::position_differs(values, reading, report),
-        inputs: comparison::inputs_differ(values, differing),
+        inputs: comparison::inputs_differ(values, begun.differing),
         datum: report::datum_differs(values, count, state.k, report),
     };
     let after = fault.next(values, differs.any());
@@ -168,14 +212,26 @@ pub fn judge(values: &Values, count: usize, state: State, given: Given) -> Findi
         step,
         differs,
         active::fault_stops(values, effective, after),
+        watched.overstepped,
     );
     Findings {
         step,
         nx,
         choice,
-        differing,
+        directions,
+        differing: begun.differing,
         fault: after,
         rows,
         summary: Summary::of(rows),
     }
+}
+
+pub fn judge(values: &Values, count: usize, state: State, given: Given) -> Findings
+    ensures { λ r. ⌜ r ≡ findingsOf (lent (now (values .entry)) count) state given ⌝ }
+{
+    let begun = begin(values, state, given);
+    let kept = state.kept;
+    let directions = kept.directions;
+    let watched = directions.watched(values, given.reading);
+    finish(values, count, state, given, begun, watched)
 }

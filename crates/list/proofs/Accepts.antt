@@ -22,7 +22,7 @@ use Rattle.words.specs.Words.{wordAt}
 use Rattle.words.proofs.IsWord.{read-at}
 use Rattle.words.proofs.Front.{front-reads, front-is}
 use Rattle.words.proofs.Cases.{is-head, case-head, Case, met, missed, there}
-use Rattle.ranges.specs.Table.{dataCount, inRange}
+use Rattle.ranges.specs.Table.{dataCount, allowed}
 use Rattle.machine_data.specs.Data.{InRanges}
 use Rattle.machine_data.specs.declared.MachineData.{MachineData}
 use Rattle.datum.specs.declared.DatumAnswer as D
@@ -54,7 +54,7 @@ accepts {d} (list {w} {vs} {ws} h size x values below1 below2) rest =
 pub record Gathered (m : ℕ) (s : List ℕ) (k at : ℕ) (acc : List ℤ) (d : MachineData) (n : ℕ) : Type 0 where
   pub later : List ℤ
   pub words : List ℕ
-  pub from : DataTo m k later words
+  pub from : DataTo m m k later words
   pub values : d .values ≡ take k acc ++ (later ++ drop m acc)
   pub count : d .count ≡ m
   pub here : drop at s ≡ words ++ drop n s
@@ -66,7 +66,7 @@ answer : {a b : ListRead} → a ≡ b → a .answer ≡ b .answer
 answer e = ap (λ (r : ListRead). r .answer) e
 
 from-gather : (m i : ℕ) (s : List ℕ) (k at : ℕ) (acc : List ℤ) (d : MachineData) (n : ℕ) → i + k ≡ m → length acc ≡ dataCount →
-    gather i s k at acc ≡ acceptedList d n → Gathered m s k at acc d n
+    gather m i s k at acc ≡ acceptedList d n → Gathered m s k at acc d n
 unfolding gather ends
 from-gather m zero s k at acc d n c l = go (seBelow acc 11) refl (seBelow acc 13) refl
   where
@@ -82,7 +82,7 @@ from-gather m zero s k at acc d n c l = go (seBelow acc 11) refl (seBelow acc 13
         record {
           later = [];
           words = [];
-          from = subst (λ (j : ℕ). DataTo m j [] []) last end;
+          from = subst (λ (j : ℕ). DataTo m m j [] []) last end;
           values = sym same ∙ sym (ap (λ (j : ℕ). take k acc ++ drop j acc) last ∙ take-append-drop k acc);
           count = omega (arith, size, last);
           here = ap (λ (j : ℕ). drop j s) place;
@@ -91,20 +91,20 @@ from-gather m zero s k at acc d n c l = go (seBelow acc 11) refl (seBelow acc 13
           below2 = subst (λ (l : List ℤ). T (seBelow l 13)) same (subst T (sym q) tt);
         }
 from-gather m (suc i) s k at acc d n c l =
-    go (valueAt s k at) (read-written s k at) (λ z next. from-gather m i s (k + 1) next (set acc k z) d n (omega (arith, c)) (length-set acc k z ∙ l))
+    go (valueAt m s k at) (read-written m s k at) (λ z next. from-gather m i s (k + 1) next (set acc k z) d n (omega (arith, c)) (length-set acc k z ∙ l))
   where
-    go : (t : D.DatumAnswer) → ((z : ℤ) (next : ℕ) → t ≡ D.the-variants.Value z next → Wrote s k at z next × T (inRange k z))
-        → ((z : ℤ) (next : ℕ) → gather i s (k + 1) next (set acc k z) ≡ acceptedList d n → Gathered m s (k + 1) next (set acc k z) d n)
-        → onValue t (λ z next. gather i s (k + 1) next (set acc k z)) ≡ acceptedList d n → Gathered m s k at acc d n
+    go : (t : D.DatumAnswer) → ((z : ℤ) (next : ℕ) → t ≡ D.the-variants.Value z next → Wrote s k at z next × T (allowed m k z))
+        → ((z : ℤ) (next : ℕ) → gather m i s (k + 1) next (set acc k z) ≡ acceptedList d n → Gathered m s (k + 1) next (set acc k z) d n)
+        → onValue t (λ z next. gather m i s (k + 1) next (set acc k z)) ≡ acceptedList d n → Gathered m s k at acc d n
     go (D.the-variants.Value z next) wrote rest e =
         let both = wrote z next refl in
         let w = both .0 in
         let r = rest z next e in
-        let room : k < length acc = omega (arith, l, below-count k z (both .1)) in
+        let room : k < length acc = omega (arith, l, below-count m k z (both .1)) in
         record {
           later = z ∷ r .later;
           words = w .words ++ r .words;
-          from = datum (w .written) (both .1) (subst (λ (j : ℕ). DataTo m j (r .later) (r .words)) (add-one k) (r .from));
+          from = datum (w .written) (both .1) (subst (λ (j : ℕ). DataTo m m j (r .later) (r .words)) (add-one k) (r .from));
           values = r .values ∙ one-more acc k z (r .later ++ drop m (set acc k z)) room ∙ ap (λ (l : List ℤ). take k acc ++ (z ∷ (r .later ++ l))) (drop-set-lt m acc k z (omega (arith, c)));
           count = r .count;
           here = w .here ∙ ap (λ (t : List ℕ). w .words ++ t) (r .here) ∙ sym (append-assoc (w .words) (r .words) (drop n s));
@@ -129,7 +129,7 @@ accepted s d n = (back, forth)
           bound,
           subst (IsList d) (sym front)
               (list (read-at s 0 head (λ y. never (cc))) (subst (λ (i : ℕ). T (isHead i)) (sym (g .count)) size)
-              (subst (λ (j : ℕ). DataTo j 0 (g .later) (g .words)) (sym (g .count)) (g .from))
+              (subst (λ (j : ℕ). DataTo j j 0 (g .later) (g .words)) (sym (g .count)) (g .from))
               (g .values ∙ ap (λ (l : List ℤ). g .later ++ l) (behind-zeros m) ∙ ap (λ (j : ℕ). filled j (g .later)) (sym (g .count)))
               (g .below1) (g .below2)),
         )
@@ -137,7 +137,7 @@ accepted s d n = (back, forth)
     back : readList s ≡ acceptedList d n → (n ≤ length s) × IsList d (take n s)
     back e = let h = is-head (wordAt s 0) _ (refusedList (WrongWord 0)) (acceptedList d n) e (λ y. never (cc (answer y))) in go (h .0) (isHead (h .0)) refl (h .1) (h .2)
       where
-        go : (m : ℕ) (t : Bool) → isHead m ≡ t → wordAt s 0 ≡ W.Head m → cond t (gather m s 0 1 zeros) (refusedList (WrongWord 0)) ≡ acceptedList d n → (n ≤ length s) × IsList d (take n s)
+        go : (m : ℕ) (t : Bool) → isHead m ≡ t → wordAt s 0 ≡ W.Head m → cond t (gather m m s 0 1 zeros) (refusedList (WrongWord 0)) ≡ acceptedList d n → (n ≤ length s) × IsList d (take n s)
         go m true q word g =
             written word (subst T (sym q) tt) (from-gather m m s 0 1 zeros d n (omega arith) (length-replicate dataCount (pos 0)) g)
         go m false q word g = never (cc (answer g))
@@ -153,15 +153,15 @@ pub data Outcome : ListRead → Type 0 where
   as-accepted : (d : MachineData) (n : ℕ) → Outcome (acceptedList d n)
   as-refused : (why : Refusal) → Outcome (refusedList why)
 
-gather-outcome : (i : ℕ) (s : List ℕ) (k at : ℕ) (acc : List ℤ) → Outcome (gather i s k at acc)
+gather-outcome : (head i : ℕ) (s : List ℕ) (k at : ℕ) (acc : List ℤ) → Outcome (gather head i s k at acc)
 unfolding gather ends
-gather-outcome zero s k at acc = go (seBelow acc 11) (seBelow acc 13)
+gather-outcome head zero s k at acc = go (seBelow acc 11) (seBelow acc 13)
   where
     go : (a b : Bool) → Outcome (cond a (cond b (acceptedList (record { values = acc; count = k }) at) (refusedList (SeEnds (placeOf s 13)))) (refusedList (SeEnds (placeOf s 11))))
     go false b = as-refused (SeEnds (placeOf s 11))
     go true false = as-refused (SeEnds (placeOf s 13))
     go true true = as-accepted (record { values = acc; count = k }) at
-gather-outcome (suc i) s k at acc = go (valueAt s k at) (λ z next. gather-outcome i s (k + 1) next (set acc k z))
+gather-outcome head (suc i) s k at acc = go (valueAt head s k at) (λ z next. gather-outcome head i s (k + 1) next (set acc k z))
   where
     go : (t : D.DatumAnswer) {f : ℤ → ℕ → ListRead} → ((z : ℤ) (next : ℕ) → Outcome (f z next)) → Outcome (onValue t f)
     go (D.the-variants.Value z next) h = h z next
@@ -171,8 +171,8 @@ pub outcome : (s : List ℕ) → Outcome (readList s)
 unfolding readList
 outcome s = go (case-head (wordAt s 0) _ (refusedList (WrongWord 0)))
   where
-    go : {is : Word → Bool} {r : ListRead} → Case is W.Head (wordAt s 0) (λ n. cond (isHead n) (gather n s 0 1 zeros) (refusedList (WrongWord 0))) (refusedList (WrongWord 0)) r → Outcome r
-    go (met n e) = if-case Outcome (isHead n) (gather n s 0 1 zeros) (refusedList (WrongWord 0)) (λ t. gather-outcome n s 0 1 zeros) (λ t. as-refused (WrongWord 0))
+    go : {is : Word → Bool} {r : ListRead} → Case is W.Head (wordAt s 0) (λ n. cond (isHead n) (gather n n s 0 1 zeros) (refusedList (WrongWord 0))) (refusedList (WrongWord 0)) r → Outcome r
+    go (met n e) = if-case Outcome (isHead n) (gather n n s 0 1 zeros) (refusedList (WrongWord 0)) (λ t. gather-outcome n n s 0 1 zeros) (λ t. as-refused (WrongWord 0))
     go (missed q) = as-refused (WrongWord 0)
 
 -- an answer that accepts is the whole of an acceptance
@@ -199,19 +199,19 @@ used-words s n e = accepted s (readList s .list) n .0 (whole-answer s n e) .0
 pub in-ranges : (s : List ℕ) (n : ℕ) → readList s .answer ≡ A.the-variants.Accepted n → InRanges (readList s .list)
 in-ranges s n e k h = of-list (accepted s (readList s .list) n .0 (whole-answer s n e) .1) h
   where
-    of-data : {i m : ℕ} {vs : List ℤ} {ws : List ℕ} → DataTo m i vs ws → (j : ℕ) → j + i < m → T (inRange (j + i) (getD vs j (pos 0)))
+    of-data : {head i m : ℕ} {vs : List ℤ} {ws : List ℕ} → DataTo head m i vs ws → (j : ℕ) → j + i < m → T (allowed head (j + i) (getD vs j (pos 0)))
     of-data {m = m} end j l = absurd (omega (arith, l))
-    of-data (datum {k = i} {z} w r x) zero l = let same : i ≡ 0 + i = omega arith in subst (λ (n : ℕ). T (inRange n z)) same r
-    of-data (datum {k = i} {vs = vs} w r x) (suc j) l =
+    of-data {head} (datum {k = i} {z} w r x) zero l = let same : i ≡ 0 + i = omega arith in subst (λ (n : ℕ). T (allowed head n z)) same r
+    of-data {head} (datum {k = i} {vs = vs} w r x) (suc j) l =
         let same : j + suc i ≡ suc j + i = omega arith in
-        subst (λ (n : ℕ). T (inRange n (getD vs j (pos 0)))) same (of-data x j (omega (arith, l)))
+        subst (λ (n : ℕ). T (allowed head n (getD vs j (pos 0)))) same (of-data x j (omega (arith, l)))
 
-    of-list : {d : MachineData} {ws : List ℕ} → IsList d ws → k < d .count → T (inRange k (getD (d .values) k (pos 0)))
+    of-list : {d : MachineData} {ws : List ℕ} → IsList d ws → k < d .count → T (allowed (d .count) k (getD (d .values) k (pos 0)))
     of-list {d} (list {vs = vs} w size x values a b) h =
         let same : k + 0 ≡ k = omega arith in
         let at : getD vs k (pos 0) ≡ getD (d .values) k (pos 0) =
         sym (List·getD-append vs (replicate (dataCount - d .count) (pos 0)) (pos 0) k (omega (arith, h, how-many x))) ∙ ap (λ (l : List ℤ). getD l k (pos 0)) (sym values) in
-        subst (λ (z : ℤ). T (inRange k z)) at (subst (λ (n : ℕ). T (inRange n (getD vs k (pos 0)))) same (of-data x k (omega (arith, h))))
+        subst (λ (z : ℤ). T (allowed (d .count) k z)) at (subst (λ (n : ℕ). T (allowed (d .count) n (getD vs k (pos 0)))) same (of-data x k (omega (arith, h))))
 
 -- and each that it lacks stands as 0
 pub lacking : {d : MachineData} {ws : List ℕ} → IsList d ws → (k : ℕ) → d .count ≤ k → getD (d .values) k (pos 0) ≡ pos 0

@@ -37,15 +37,15 @@ use Rattle.list.specs.declared.ListRead.{ListRead}
 -- ---- the head
 
 behind-head : List ℕ → ℕ → ListRead
-behind-head s n = cond (isHead n) (gather n s 0 1 zeros) (refusedList (WrongWord 0))
+behind-head s n = cond (isHead n) (gather n n s 0 1 zeros) (refusedList (WrongWord 0))
 
 pub no-head-word : (s : List ℕ) {x : Word} → x ≡ wordAt s 0 → OneOf (1 ∷ 2 ∷ 3 ∷ 4 ∷ 5 ∷ 6 ∷ 7 ∷ 8 ∷ []) (tagOf the-type x) → refusedList (WrongWord 0) ≡ readList s
 unfolding readList behind-head
 no-head-word s {x} e h = no-head x h (behind-head s) (refusedList (WrongWord 0)) ∙ ap (λ (y : Word). ifHead y (behind-head s) (refusedList (WrongWord 0))) e
 
-pub by-head : (s : List ℕ) {n : ℕ} → wordAt s 0 ≡ Head n → {t : Bool} → isHead n ≡ t → cond t (gather n s 0 1 zeros) (refusedList (WrongWord 0)) ≡ readList s
+pub by-head : (s : List ℕ) {n : ℕ} → wordAt s 0 ≡ Head n → {t : Bool} → isHead n ≡ t → cond t (gather n n s 0 1 zeros) (refusedList (WrongWord 0)) ≡ readList s
 unfolding readList behind-head
-by-head s {n} e h = sym (ap (λ (y : Word). ifHead y (behind-head s) (refusedList (WrongWord 0))) e ∙ ap (λ (t : Bool). cond t (gather n s 0 1 zeros) (refusedList (WrongWord 0))) h)
+by-head s {n} e h = sym (ap (λ (y : Word). ifHead y (behind-head s) (refusedList (WrongWord 0))) e ∙ ap (λ (t : Bool). cond t (gather n n s 0 1 zeros) (refusedList (WrongWord 0))) h)
 
 -- each head is at least that of document 01, and no more than there is room for
 abbrev fitting : List ℕ → Bool
@@ -72,25 +72,25 @@ head-bounds n t = among-fitting heads n tt t
 
 -- ---- the data one by one
 
-pub begun : (s : List ℕ) (count : ℕ) → gather (count - 0) s 0 1 zeros ≡ gather count s 0 1 zeros
-begun s count = let all : count - 0 ≡ count = omega arith in ap (λ (n : ℕ). gather n s 0 1 zeros) all
+pub begun : (s : List ℕ) (count : ℕ) → gather count (count - 0) s 0 1 zeros ≡ gather count count s 0 1 zeros
+begun s count = let all : count - 0 ≡ count = omega arith in ap (λ (n : ℕ). gather count n s 0 1 zeros) all
 
-module _ (s : List ℕ) (count k at : ℕ) (vs : List ℤ) {r : ListRead} (inv : gather (count - k) s k at vs ≡ r) where
+module _ (s : List ℕ) (count k at : ℕ) (vs : List ℤ) {r : ListRead} (inv : gather count (count - k) s k at vs ≡ r) where
   later : ℤ → ℕ → ListRead
-  later z next = gather (count - (k + 1)) s (k + 1) next (set vs k z)
+  later z next = gather count (count - (k + 1)) s (k + 1) next (set vs k z)
 
-  turned : k < count → {t : D.DatumAnswer} → valueAt s k at ≡ t → onValue t later ≡ r
+  turned : k < count → {t : D.DatumAnswer} → valueAt count s k at ≡ t → onValue t later ≡ r
   unfolding gather later
   turned h {t} e =
       let less : count - k ≡ suc (count - (k + 1)) = omega arith in
-      sym (ap (λ (x : D.DatumAnswer). onValue x later) e) ∙ ap (λ (n : ℕ). gather n s k at vs) (sym less) ∙ inv
+      sym (ap (λ (x : D.DatumAnswer). onValue x later) e) ∙ ap (λ (n : ℕ). gather count n s k at vs) (sym less) ∙ inv
 
-  pub again : k < count → {z : ℤ} {next : ℕ} → valueAt s k at ≡ D.the-variants.Value z next → {y : ℤ} → y ≡ z →
-      gather (count - (k + 1)) s (k + 1) next (set vs k y) ≡ r
+  pub again : k < count → {z : ℤ} {next : ℕ} → valueAt count s k at ≡ D.the-variants.Value z next → {y : ℤ} → y ≡ z →
+      gather count (count - (k + 1)) s (k + 1) next (set vs k y) ≡ r
   unfolding later
-  again h {z} {next} st e = (λ i. gather (count - (k + 1)) s (k + 1) next (set vs k (e i))) ∙ turned h st
+  again h {z} {next} st e = (λ i. gather count (count - (k + 1)) s (k + 1) next (set vs k (e i))) ∙ turned h st
 
-  pub stopped : k < count → {why : Refusal} → valueAt s k at ≡ D.the-variants.Refused why → refusedList why ≡ r
+  pub stopped : k < count → {why : Refusal} → valueAt count s k at ≡ D.the-variants.Refused why → refusedList why ≡ r
   stopped h st = turned h st
 
   pub all-read : k ≤ count → count ≤ k → ends s (record { values = vs; count = count }) at ≡ r
@@ -98,7 +98,7 @@ module _ (s : List ℕ) (count k at : ℕ) (vs : List ℤ) {r : ListRead} (inv :
   all-read h g =
       let none : count - k ≡ 0 = omega arith in
       let last : count ≡ k = omega arith in
-      ap (λ (n : ℕ). ends s (record { values = vs; count = n }) at) last ∙ ap (λ (n : ℕ). gather n s k at vs) (sym none) ∙ inv
+      ap (λ (n : ℕ). ends s (record { values = vs; count = n }) at) last ∙ ap (λ (n : ℕ). gather count n s k at vs) (sym none) ∙ inv
 
 -- ---- the place of a datum
 

@@ -43,11 +43,11 @@ abbrev pub onValue : D.DatumAnswer → (ℤ → ℕ → ListRead) → ListRead
 onValue (D.the-variants.Value z next) f = f z next
 onValue (D.the-variants.Refused why) f = refusedList why
 
--- n data from number k on, the first at the place `at`, with the values vs before; "The first faulty datum gives the answer"
-unfoldable pub gather : ℕ → List ℕ → ℕ → ℕ → List ℤ → ListRead
-gather zero s k at vs = ends s (record { values = vs; count = k }) at
-gather (suc n) s k at vs = onValue (valueAt s k at) (λ z next. gather n s (k + 1) next (set vs k z))
+-- n data from number k on of a list with this head, the first at the place `at`, with the values vs before; "The first faulty datum gives the answer"
+unfoldable pub gather : ℕ → ℕ → List ℕ → ℕ → ℕ → List ℤ → ListRead
+gather head zero s k at vs = ends s (record { values = vs; count = k }) at
+gather head (suc n) s k at vs = onValue (valueAt head s k at) (λ z next. gather head n s (k + 1) next (set vs k z))
 
 -- "A list is a head and the data in number order"
 unfoldable pub readList : List ℕ → ListRead
-readList s = ifHead (wordAt s 0) (λ n. cond (isHead n) (gather n s 0 1 zeros) (refusedList (WrongWord 0))) (refusedList (WrongWord 0))
+readList s = ifHead (wordAt s 0) (λ n. cond (isHead n) (gather n n s 0 1 zeros) (refusedList (WrongWord 0))) (refusedList (WrongWord 0))

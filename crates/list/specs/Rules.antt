@@ -1,4 +1,4 @@
--- What a list must meet besides its data: the numbers that its head may hold, and the ends of SE. Document 01, "Words" and the refusal table, W1 and W3.
+-- What a list must meet besides its data: the numbers that its head may hold, and the ends of SE. Document 01, "Words" and the refusal table, W1, W3 and W6.
 use Prim.Native.Nat.{ℕ, suc}
 use mathlib.Core.Bool.{Bool, false, _||_}
 use mathlib.Core.List.{List, [], _∷_}
@@ -11,9 +11,9 @@ abbrev pub among : ℕ → List ℕ → Bool
 among n [] = false
 among n (m ∷ ms) = eqb n m || among n ms
 
--- "list head, value 51"; W1: "the list head then says 67"; W3: two data more: what a head may hold, the number of its list's data
+-- "list head, value 51"; W1: "the list head then says 67"; W3: two data more; W6: three more: what a head may hold, the number of its list's data
 abbrev pub heads : List ℕ
-heads = 51 ∷ 67 ∷ 69 ∷ []
+heads = 51 ∷ 67 ∷ 69 ∷ 72 ∷ []
 
 abbrev pub isHead : ℕ → Bool
 isHead n = among n heads

@@ -6,12 +6,12 @@ ghost use Rattle.list.specs.Rules.{isHead};
 ghost use Rattle.list.specs.Reading.{placeOf, refusedList, ends, gather, zeros, readList};
 use datum::DatumAnswer;
 use machine_data::MachineData;
-use machine_data::heads;
 use machine_data::numbers::SE1_MINUS;
 use machine_data::numbers::SE1_PLUS;
 use machine_data::numbers::SE2_MINUS;
 use machine_data::numbers::SE2_PLUS;
 use ranges::DATA;
+use ranges::heads;
 use refusal::Refusal;
 use words::Word;
 
@@ -35,6 +35,7 @@ fn is_head(n: u32) -> bool
         heads::BASE => true,
         heads::GEARS => true,
         heads::NX => true,
+        heads::DIRECTION => true,
         _ => false,
     }
 }
@@ -84,13 +85,13 @@ fn ended(words: &[u32], list: MachineData, at: usize) -> ListRead
 // The data, from behind the head.
 fn data_from(words: &[u32], count: usize) -> ListRead
     requires { ⌜ count ≤ dataCount ⌝ }
-    ensures { λ r. ⌜ r ≡ gather count (now (words .entry)) 0 1 zeros ⌝ }
+    ensures { λ r. ⌜ r ≡ gather count count (now (words .entry)) 0 1 zeros ⌝ }
 {
     let mut values = [0i32; DATA];
     let mut at = 1usize;
     let mut k = 0usize;
     while k < count {
-        let answer = datum::value_at(words, k, at);
+        let answer = datum::value_at(words, count, k, at);
         match answer {
             DatumAnswer::Value(z, next) => {
                 values[k] = z;

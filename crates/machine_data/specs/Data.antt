@@ -3,13 +3,13 @@
 -- stands for a datum which a shorter list lacks (`lacks` in proofs/Lacks.antt).
 use Prim.Native.Nat.{ℕ, _+_, _%_, _<_}
 use mathlib.Core.List.{List}
-use mathlib.Core.Bool.{Bool, cond, _&&_}
+use mathlib.Core.Bool.{Bool, cond, _&&_, _||_}
 use lib.ListN.{getD}
 use lib.IntN.{ℤ, pos, negsuc}
 use lib.Signed.{ltZ}
-use lib.Dec.{T, ltb, leb}
+use lib.Dec.{T, ltb, leb, eqb}
 use Rattle.bits.specs.Bits.{bitOf}
-use Rattle.ranges.specs.Table.{dataCount, lowOf, highOf, inRange}
+use Rattle.ranges.specs.Table.{dataCount, lowOf, highOf, allowed}
 use Rattle.machine_data.specs.declared.MachineData.{MachineData}
 use Rattle.machine_data.specs.declared.Ratio.{Ratio}
 
@@ -33,9 +33,9 @@ size (negsuc n) = 0
 unfoldable pub numberOf : List ℤ → ℕ → ℕ
 numberOf d k = size (datumOf d k)
 
--- W1: "A list headed 51 is read with every ratio 1 to 1"; "in a shorter list they count as 0": as what number a datum is read that a list lacks
+-- W1: "A list headed 51 is read with every ratio 1 to 1"; "in a shorter list they count as 0", a stop as 1, the least that it may be: as what number a datum is read that a list lacks
 abbrev pub lackedOf : ℕ → ℕ
-lackedOf k = cond (leb 51 k && leb k 66) 1 0
+lackedOf k = cond ((leb 51 k && leb k 66) || eqb k 71) 1 0
 
 -- W1: "one of eight ratios": "Data 51 to 58 are the numerators and 59 to 66 the denominators"
 unfoldable pub ratioOf : List ℤ → ℕ → Ratio
@@ -51,8 +51,8 @@ entryOf d k = cond (ltb k dataCount) (getD d k (pos 0)) (pos 0)
 
 -- each datum that the list has lies within its range, as in every accepted list
 abbrev pub InRanges : MachineData → Type 0
-InRanges m = (k : ℕ) → k < m .count → T (inRange k (getD (m .values) k (pos 0)))
+InRanges m = (k : ℕ) → k < m .count → T (allowed (m .count) k (getD (m .values) k (pos 0)))
 
--- "functions; bit 0 SBH/SG, 1 SE, 2 cams, 3 n<nx, 4 external stops": function n is on
+-- "functions; bit 0 SBH/SG, 1 SE, 2 cams, 3 n<nx, 4 external stops"; W6: "Function bit 5 enables it", safe direction: function n is on
 unfoldable pub functionOf : List ℤ → ℕ → Bool
 functionOf d n = bitOf (numberOf d 1) n

@@ -8,3 +8,5 @@ pub const CAMS: u32 = 2;
 pub const NX: u32 = 3;
 
 pub const EXTERNAL_STOPS: u32 = 4;
+
+pub const DIRECTION: u32 = 5;

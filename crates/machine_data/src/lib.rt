@@ -1,6 +1,5 @@
 // The machine data of a channel: the data of a list by number and name, and a datum read within its range.
 pub mod functions;
-pub mod heads;
 pub mod numbers;
 
 ghost use mathlib.Core.Path.{_≡_};

@@ -1,4 +1,4 @@
-// The numbers of the data, as document 01's table, W1 and W3 have them. Where a row has several, the first.
+// The numbers of the data, as document 01's table, W1, W3 and W6 have them. Where a row has several, the first.
 pub const CYCLE_TIME: usize = 0;
 
 pub const FUNCTIONS: usize = 1;
@@ -52,3 +52,9 @@ pub const DENOMINATOR: usize = 59;
 pub const NX_HYSTERESIS: usize = 67;
 
 pub const NX_FILTER: usize = 68;
+
+pub const DIRECTION_TOLERANCE: usize = 69;
+
+pub const DIRECTION_DELAY: usize = 70;
+
+pub const DIRECTION_STOP: usize = 71;

@@ -20,7 +20,7 @@ use Rattle.runs.proofs.Running.{above-running, running-above}
 use Rattle.nx_signal.specs.declared.Signal.{Signal}
 use Rattle.nx_signal.specs.Signal.{signalNext, belowRun, valueNext}
 use Rattle.nx_signal.proofs.Steady.{apart}
-use Rattle.nx_signal.proofs.Since.{one-since, since-one}
+use Rattle.runs.proofs.Since.{set-since, since-set}
 use Rattle.state.specs.declared.State.{State}
 use Rattle.state.specs.declared.Given.{Given}
 use Rattle.judge.specs.Causes.{stepOf}
@@ -111,14 +111,14 @@ module _ (L : ℕ → MachineData) (S : ℕ → State) (G : ℕ → Given) (none
             used = and-l (used n) (on (suc n)) o;
             enabled = and-l (functionOf (L n .values) 3) (used n && on (suc n)) f;
             one =
-                one-since used (belowAt L G) (overAt L G) (filterAt L G) on ran (ap (λ (x : Signal). x .on) off) on-at tells told
+                set-since used (belowAt L G) (overAt L G) (filterAt L G) on ran (ap (λ (x : Signal). x .on) off) on-at tells told
                 (λ i. apart (L i .values) (stepAt L G i)) (suc n) (and-r (used n) (on (suc n)) o);
           }
 
       back : ShownAt L G n → T (bitOf (word (L n) (S n) (G n)) 21)
       back x =
           let o =
-          since-one used (belowAt L G) (overAt L G) (filterAt L G) on ran (ap (λ (x : Signal). x .on) off) on-at tells told
+          since-set used (belowAt L G) (overAt L G) (filterAt L G) on ran (ap (λ (x : Signal). x .on) off) on-at tells told
           (λ i. apart (L i .values) (stepAt L G i)) (suc n) (x .one) in
           subst T (sym (bit-21 n)) (and-i (functionOf (L n .values) 3) (used n && on (suc n)) (x .enabled) (and-i (used n) (on (suc n)) (x .used) o))
 

@@ -14,7 +14,7 @@ use Rattle.distance.specs.declared.Previous.the-variants.{Absent, At}
 use Rattle.speed.specs.declared.Step.{Step}
 use Rattle.speed.specs.Speed.{slower}
 use Rattle.nx_signal.specs.Signal.{released}
-use Rattle.nx_signal.specs.Since.{OneSince}
+use Rattle.runs.specs.Since.{SetSince}
 use Rattle.state.specs.declared.Given.{Given}
 use Rattle.judge.specs.Causes.{stepOf}
 use Rattle.list.specs.declared.ListAnswer.the-variants.{Accepted}
@@ -49,7 +49,7 @@ module _ (L : ℕ → MachineData) (G : ℕ → Given) where
   pub record ShownAt (n : ℕ) : Type 0 where
     pub used : T (usableIn L G n)
     pub enabled : T (functionOf (L n .values) 3)
-    pub one : OneSince (usableIn L G) belowAt overAt filterAt n
+    pub one : SetSince (usableIn L G) belowAt overAt filterAt n
 
 -- in each cycle of a list of calls, by the words that they give
 abbrev pub ShownNx : Type 0

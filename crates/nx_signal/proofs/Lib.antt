@@ -1,3 +1,2 @@
 pub mod Steady
-pub mod Since
 pub mod Cases

@@ -1,2 +1,1 @@
 pub mod Signal
-pub mod Since

@@ -1,15 +1,15 @@
--- The ranges of the machine data: document 01, "Machine data", W1 and W3.
+-- The ranges of the machine data: document 01, "Machine data", W1, W3 and W6.
 use Prim.Native.Nat.{ℕ}
 use mathlib.Core.List.{List, [], _∷_, _++_}
-use mathlib.Core.Bool.{Bool, cond, _&&_}
+use mathlib.Core.Bool.{Bool, not, cond, _&&_, _||_}
 use lib.IntN.{ℤ, pos, negsuc}
 use lib.Signed.{leZ}
-use lib.Dec.{leb, ltb}
+use lib.Dec.{leb, ltb, eqb}
 use Rattle.ranges.specs.declared.Range.{Range}
 
--- "51 data, numbers 0 to 50"; W1: "the list head then says 67"; W3: data 67 and 68 "are added". How many data the longest list has
+-- "51 data, numbers 0 to 50"; W1: "the list head then says 67"; W3: data 67 and 68 "are added"; W6: data 69 to 71. How many data the longest list has
 abbrev pub dataCount : ℕ
-dataCount = 69
+dataCount = 72
 
 -- a row of the table: the data up to number `last`, from the row before on
 pub record Row : Type 0 where
@@ -24,13 +24,13 @@ to last low high = record { last = last; low = low; high = pos high }
 abbrev pub position : ℕ → Row
 position last = to last (negsuc 99_999_999) 100_000_000
 
--- one row of document 01's table a line
-abbrev pub baseRows : List Row
-baseRows =
+-- one row of document 01's table a line; of datum 1, to which requests add functions, the most that it may be
+abbrev pub baseRows : ℕ → List Row
+baseRows functions =
     -- T
     to 0 (pos 1) 25
     -- functions
-    ∷ to 1 (pos 0) 31
+    ∷ to 1 (pos 0) functions
     -- standstill tolerance
     ∷ to 2 (pos 0) 100_000
     -- limits SG1 to SG4
@@ -69,9 +69,13 @@ gearRows = to 58 (pos 1) 1_000 ∷ to 66 (pos 1) 1_000 ∷ []
 abbrev pub nxRows : List Row
 nxRows = to 67 (pos 0) 1_000_000 ∷ to 68 (pos 0) 1_000 ∷ []
 
--- the whole table: a list of fewer data has its front
+-- W6: "Data 69 to 71 are tolerance (0 to 100,000), delay (0 to 1,000) and stop (1 to 5)" of safe direction
+abbrev pub directionRows : List Row
+directionRows = to 69 (pos 0) 100_000 ∷ to 70 (pos 0) 1_000 ∷ to 71 (pos 1) 5 ∷ []
+
+-- the whole table: a list of fewer data has its front; W6: "datum 1 may then be up to 63"
 abbrev pub rows : List Row
-rows = baseRows ++ gearRows ++ nxRows
+rows = baseRows 63 ++ gearRows ++ nxRows ++ directionRows
 
 -- the row of datum k: the first that goes as far
 abbrev pub rowOf : List Row → ℕ → Row
@@ -88,6 +92,14 @@ highOf k = rowOf rows k .high
 abbrev pub rangeOf : ℕ → Range
 rangeOf k = record { low = lowOf k; high = highOf k }
 
--- z may be datum k; there is none past the last
+-- z may be datum k of the longest list; there is none past the last
 unfoldable pub inRange : ℕ → ℤ → Bool
 inRange k z = ltb k dataCount && leZ (lowOf k) z && leZ z (highOf k)
+
+-- W6: with function 5 on, which needs data 69 to 71, "datum 1 may then be up to 63": the most that it may be in a list of so many data
+abbrev pub mostFunctions : ℕ → ℤ
+mostFunctions head = cond (leb 72 head) (pos 63) (pos 31)
+
+-- z may be datum k of a list whose head says so many data
+unfoldable pub allowed : ℕ → ℕ → ℤ → Bool
+allowed head k z = inRange k z && (not (eqb k 1) || leZ z (mostFunctions head))

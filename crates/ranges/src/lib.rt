@@ -1,10 +1,12 @@
 // The table of ranges: between which ends each of the machine data lies.
+pub mod heads;
+
 ghost use mathlib.Core.Path.{_≡_};
 ghost use Prim.Native.Nat.{_<_, _≤_};
-ghost use Rattle.ranges.specs.Table.{dataCount, rangeOf, inRange};
+ghost use Rattle.ranges.specs.Table.{dataCount, rangeOf, inRange, mostFunctions, allowed};
 
 // How many data the longest list has.
-pub const DATA: usize = 69;
+pub const DATA: usize = 72;
 
 // The range of a datum, by its ends.
 pub struct Range {
@@ -20,7 +22,7 @@ fn range_to_15(k: usize) -> Range
     if k < 1 {
         Range { low: 1, high: 25 }
     } else if k < 2 {
-        Range { low: 0, high: 31 }
+        Range { low: 0, high: 63 }
     } else if k < 3 {
         Range {
             low: 0,
@@ -96,8 +98,17 @@ fn range_from_51(k: usize) -> Range
             low: 0,
             high: 1000000,
         }
-    } else {
+    } else if k < 69 {
         Range { low: 0, high: 1000 }
+    } else if k < 70 {
+        Range {
+            low: 0,
+            high: 100000,
+        }
+    } else if k < 71 {
+        Range { low: 0, high: 1000 }
+    } else {
+        Range { low: 1, high: 5 }
     }
 }
 
@@ -125,8 +136,8 @@ pub fn range_of(k: usize) -> Range
     row_of(k)
 }
 
-// Whether z may be datum k. There is none past the last.
-pub fn in_range(k: usize, z: i32) -> bool
+// Whether z may be datum k of the longest list. There is none past the last.
+fn in_range(k: usize, z: i32) -> bool
     ensures { λ r. ⌜ r ≡ inRange k z ⌝ }
 {
     if DATA <= k {
@@ -137,4 +148,26 @@ pub fn in_range(k: usize, z: i32) -> bool
         return false;
     }
     z <= range.high
+}
+
+// The most that datum 1 may be in a list of so many data: a function is not turned on without its data.
+fn most_functions(head: usize) -> i32
+    ensures { λ r. ⌜ r ≡ mostFunctions head ⌝ }
+{
+    if heads::DIRECTION <= head { 63 } else { 31 }
+}
+
+// Whether z may be datum k of a list whose head says so many data.
+pub fn allowed(head: usize, k: usize, z: i32) -> bool
+    ensures { λ r. ⌜ r ≡ allowed head k z ⌝ }
+{
+    if in_range(k, z) {
+        if k == 1 {
+            z <= most_functions(head)
+        } else {
+            true
+        }
+    } else {
+        false
+    }
 }

@@ -25,7 +25,7 @@ use Rattle.whole.specs.declared.Whole as H
 use Rattle.whole.specs.Whole.{wholeOf}
 use Rattle.whole.specs.Stands.{StandsFor}
 use Rattle.whole.proofs.Stands as whole-proofs
-use Rattle.ranges.specs.Table.{inRange}
+use Rattle.ranges.specs.Table.{allowed}
 use Rattle.datum.specs.declared.Datum as D
 use Rattle.datum.specs.declared.Pieces as P
 use Rattle.datum.specs.declared.DatumRead as R
@@ -99,14 +99,14 @@ few-forms (I.datum a b) = b
 
 -- ---- what is refused is faulty
 
-module _ (s : List ℕ) (k at : ℕ) where
-  -- datum k, whose words begin at `at`, has the fault
+module _ (head : ℕ) (s : List ℕ) (k at : ℕ) where
+  -- datum k of a list with this head, whose words begin at `at`, has the fault
   abbrev pub Faulty : Refusal → Type 0
-  Faulty why = (cause : ℕ → Refusal) × (m : ℕ) × (why ≡ cause (at + m)) × DatumFault k (drop at s) cause m
+  Faulty why = (cause : ℕ → Refusal) × (m : ℕ) × (why ≡ cause (at + m)) × DatumFault head k (drop at s) cause m
 
   -- a fault with the place of the datum's own word
-  at-its-word : {ws : List ℕ} {why : Refusal} (cause : ℕ → Refusal) → why ≡ cause at → drop at s ≡ ws → DatumFault k ws cause 0 → Faulty why
-  at-its-word cause e h x = let same : at ≡ at + 0 = omega arith in (cause, 0, e ∙ ap cause same, subst (λ (l : List ℕ). DatumFault k l cause 0) (sym h) x)
+  at-its-word : {ws : List ℕ} {why : Refusal} (cause : ℕ → Refusal) → why ≡ cause at → drop at s ≡ ws → DatumFault head k ws cause 0 → Faulty why
+  at-its-word cause e h x = let same : at ≡ at + 0 = omega arith in (cause, 0, e ∙ ap cause same, subst (λ (l : List ℕ). DatumFault head k l cause 0) (sym h) x)
 
   -- the word of datum k stands here, or it does not
   here-or-not : {A : Type 0} → ((f : ℕ) → wordAt s at ≡ W.Datum k f → A) → (fits (a-datum k) (wordAt s at) ≡ false → A) → A
@@ -130,7 +130,7 @@ module _ (s : List ℕ) (k at : ℕ) where
       found f word =
           let r = pieces-broken s (at + 1) (formPieces f) 0 place (bad-pieces f s (at + 1) (of-form s k at word refl ∙ e)) in
           let far : place ≡ at + suc (r .0) = omega (arith, r .1) in
-          (WrongWord, suc (r .0), ap WrongWord far, subst (λ (ws : List ℕ). DatumFault k ws WrongWord (suc (r .0))) (sym (front word)) (no-piece (datum-word s at word) (r .2)))
+          (WrongWord, suc (r .0), ap WrongWord far, subst (λ (ws : List ℕ). DatumFault head k ws WrongWord (suc (r .0))) (sym (front word)) (no-piece (datum-word s at word) (r .2)))
 
       lost : fits (a-datum k) (wordAt s at) ≡ false → Faulty (WrongWord place)
       lost q =
@@ -159,22 +159,22 @@ module _ (s : List ℕ) (k at : ℕ) where
           let three : suc (suc (suc f)) ≡ 3 = omega (arith, few-forms w) in
           at-its-word OpenDatum (cc) (front word) (is-open (subst (λ (n : ℕ). IsWord (getD s at 0) (W.Datum k n)) three w))
 
-  pub value-fault : {why : Refusal} → valueAt s k at ≡ A.the-variants.Refused why → Faulty why
+  pub value-fault : {why : Refusal} → valueAt head s k at ≡ A.the-variants.Refused why → Faulty why
   unfolding valueAt
   value-fault {why} = by-read (datumAt s k at) refl
     where
-      by-range : (d : D.Datum) (next : ℕ) (z : ℤ) (t : Bool) → inRange k z ≡ t → datumAt s k at ≡ R.the-variants.Datum d next → unitsOf d at ≡ U.the-variants.Are z →
+      by-range : (d : D.Datum) (next : ℕ) (z : ℤ) (t : Bool) → allowed head k z ≡ t → datumAt s k at ≡ R.the-variants.Datum d next → unitsOf d at ≡ U.the-variants.Are z →
           cond t (A.the-variants.Value z next) (A.the-variants.Refused (OutOfRange at)) ≡ A.the-variants.Refused why → Faulty why
       by-range d next z true q read u e = never (cc)
       by-range d next z false q read u e =
           let w = datum-written s k at d z next read u in
           at-its-word OutOfRange (cc) (w .here) (beyond (drop next s) (w .written) (λ t. subst T q t))
 
-      by-unit : (d : D.Datum) (next : ℕ) (u : U.Units) → unitsOf d at ≡ u → datumAt s k at ≡ R.the-variants.Datum d next → ofUnits k at next u ≡ A.the-variants.Refused why → Faulty why
-      by-unit d next (U.the-variants.Are z) q read e = by-range d next z (inRange k z) refl read q e
+      by-unit : (d : D.Datum) (next : ℕ) (u : U.Units) → unitsOf d at ≡ u → datumAt s k at ≡ R.the-variants.Datum d next → ofUnits head k at next u ≡ A.the-variants.Refused why → Faulty why
+      by-unit d next (U.the-variants.Are z) q read e = by-range d next z (allowed head k z) refl read q e
       by-unit d next (U.the-variants.Refused x) q read e = let same : x ≡ why = cc in units-fault read (q ∙ ap U.the-variants.Refused same)
 
-      by-read : (x : R.DatumRead) → datumAt s k at ≡ x → ofRead k at x ≡ A.the-variants.Refused why → Faulty why
+      by-read : (x : R.DatumRead) → datumAt s k at ≡ x → ofRead head k at x ≡ A.the-variants.Refused why → Faulty why
       by-read (R.the-variants.Datum d next) q e = by-unit d next (unitsOf d at) refl q e
       by-read (R.the-variants.Bad p) q e = let same : WrongWord p ≡ why = cc in subst Faulty same (bad-fault q)
 
@@ -188,23 +188,23 @@ open-form : (s : List ℕ) (at : ℕ) → formAt 3 s at ≡ R.the-variants.Datum
 unfolding formAt piecesAt
 open-form s at = refl
 
-pub fault-value : {k m : ℕ} {cause : ℕ → Refusal} {ws : List ℕ} → DatumFault k ws cause m → (s : List ℕ) (at : ℕ) → drop at s ≡ ws → valueAt s k at ≡ A.the-variants.Refused (cause (at + m))
+pub fault-value : {head k m : ℕ} {cause : ℕ → Refusal} {ws : List ℕ} → DatumFault head k ws cause m → (s : List ℕ) (at : ℕ) → drop at s ≡ ws → valueAt head s k at ≡ A.the-variants.Refused (cause (at + m))
 unfolding unitsOf
-fault-value {k} (no-datum none) s at e =
+fault-value {head} {k} (no-datum none) s at e =
     let q = lacked (a-datum k) s at (subst (Lacks (a-datum k)) (sym e) none) in
-    sym (value-bad s k at (no-word s k at q)) ∙ own-place WrongWord at
-fault-value {k} (no-piece {w} {f} {m} {ws} h b) s at e =
+    sym (value-bad head s k at (no-word head s k at q)) ∙ own-place WrongWord at
+fault-value {head} {k} (no-piece {w} {f} {m} {ws} h b) s at e =
     let bad = sym (form-is f s (at + 1) (broken-pieces (formPieces f) b s (at + 1) (behind s at w ws e) 0)) in
     let far : at + 1 + m ≡ at + suc m = omega arith in
-    sym (value-bad s k at (sym (of-form s k at (front-reads s at w ws e h) refl) ∙ bad)) ∙ ap (λ (i : ℕ). A.the-variants.Refused (WrongWord i)) far
-fault-value {k} (is-open {w} {ws} h) s at e =
-    sym (by-units s k at (sym (of-form s k at (front-reads s at w ws e h) refl) ∙ open-form s (at + 1)) refl) ∙ own-place OpenDatum at
-fault-value {k} (no-single {w} {b} {ps} ws h p none) s at e =
-    sym (by-units s k at (form-reads s k at 1 ws h p e) (ap (ofWhole at) (none-whole (ofBits binary32 b) none))) ∙ own-place NoWholeNumber at
-fault-value {k} (no-double {w} {b} {ps} ws h p none) s at e =
-    sym (by-units s k at (form-reads s k at 2 ws h p e) (ap (ofWhole at) (none-whole (ofBits binary64 b) none))) ∙ own-place NoWholeNumber at
-fault-value {k} (beyond {z} {w} ws h out) s at e =
+    sym (value-bad head s k at (sym (of-form s k at (front-reads s at w ws e h) refl) ∙ bad)) ∙ ap (λ (i : ℕ). A.the-variants.Refused (WrongWord i)) far
+fault-value {head} {k} (is-open {w} {ws} h) s at e =
+    sym (by-units head s k at (sym (of-form s k at (front-reads s at w ws e h) refl) ∙ open-form s (at + 1)) refl) ∙ own-place OpenDatum at
+fault-value {head} {k} (no-single {w} {b} {ps} ws h p none) s at e =
+    sym (by-units head s k at (form-reads s k at 1 ws h p e) (ap (ofWhole at) (none-whole (ofBits binary32 b) none))) ∙ own-place NoWholeNumber at
+fault-value {head} {k} (no-double {w} {b} {ps} ws h p none) s at e =
+    sym (by-units head s k at (form-reads s k at 2 ws h p e) (ap (ofWhole at) (none-whole (ofBits binary64 b) none))) ∙ own-place NoWholeNumber at
+fault-value {head} {k} (beyond {z} {w} ws h out) s at e =
     let d = written-datum h s at ws e in
-    sym (by-units s k at (d .1) (d .2))
-    ∙ ap (λ (t : Bool). cond t (A.the-variants.Value z (at + length w)) (A.the-variants.Refused (OutOfRange at))) (is-false (inRange k z) out)
+    sym (by-units head s k at (d .1) (d .2))
+    ∙ ap (λ (t : Bool). cond t (A.the-variants.Value z (at + length w)) (A.the-variants.Refused (OutOfRange at))) (is-false (allowed head k z) out)
     ∙ own-place OutOfRange at

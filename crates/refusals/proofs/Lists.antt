@@ -24,7 +24,7 @@ use Rattle.words.specs.Breaks.{a-head, fits}
 use Rattle.words.proofs.IsWord.{read-at}
 use Rattle.words.proofs.Breaks.{stands, lacks, lacked, held-head, other-head}
 use Rattle.words.proofs.Front.{front-reads}
-use Rattle.ranges.specs.Table.{dataCount, inRange}
+use Rattle.ranges.specs.Table.{dataCount, allowed}
 use Rattle.machine_data.specs.declared.MachineData.{MachineData}
 use Rattle.datum.specs.declared.DatumAnswer as D
 use Rattle.datum.specs.Datum.{valueAt}
@@ -42,28 +42,28 @@ use Rattle.refusals.proofs.Data.{Faulty, value-fault, fault-value}
 
 -- ---- data before a number and from it on
 
-joined : {j k l : ℕ} {vs vs′ : List ℤ} {ws ws′ : List ℕ} → DataTo j k vs ws → DataTo l j vs′ ws′ → (w : List ℕ) × (w ≡ ws ++ ws′) × DataTo l k (vs ++ vs′) w
+joined : {head j k l : ℕ} {vs vs′ : List ℤ} {ws ws′ : List ℕ} → DataTo head j k vs ws → DataTo head l j vs′ ws′ → (w : List ℕ) × (w ≡ ws ++ ws′) × DataTo head l k (vs ++ vs′) w
 joined {ws′ = ws′} end y = (ws′, refl, y)
 joined {ws′ = ws′} (datum {w = w} {ws} g r x) y =
     let t = joined x y in
     (w ++ t .0, ap (λ (l : List ℕ). w ++ l) (t .1) ∙ sym (append-assoc w ws ws′), datum g r (t .2))
 
-record Parts (j l k : ℕ) (vs : List ℤ) (ws : List ℕ) : Type 0 where
+record Parts (head j l k : ℕ) (vs : List ℤ) (ws : List ℕ) : Type 0 where
   pub early : List ℤ
   pub late : List ℤ
   pub before : List ℕ
   pub from : List ℕ
-  pub first : DataTo j k early before
-  pub second : DataTo l j late from
+  pub first : DataTo head j k early before
+  pub second : DataTo head l j late from
   pub values : vs ≡ early ++ late
   pub words : ws ≡ before ++ from
 
-split : (j : ℕ) {l k : ℕ} {vs : List ℤ} {ws : List ℕ} → DataTo l k vs ws → k ≤ j → j < l → Parts j l k vs ws
+split : (j : ℕ) {head l k : ℕ} {vs : List ℤ} {ws : List ℕ} → DataTo head l k vs ws → k ≤ j → j < l → Parts head j l k vs ws
 split j end h g = absurd (omega (arith, h, g))
-split j {l} (datum {k} {z} {vs} {w} {ws} h r x) low high = go (eqb k j) refl (λ a b. split j x a b)
+split j {head} {l} (datum {k} {z} {vs} {w} {ws} h r x) low high = go (eqb k j) refl (λ a b. split j x a b)
   where
-    go : (t : Bool) → eqb k j ≡ t → (suc k ≤ j → j < l → Parts j l (suc k) vs ws) → Parts j l k (z ∷ vs) (w ++ ws)
-    go true q rest = subst (λ (i : ℕ). Parts i l k (z ∷ vs) (w ++ ws)) (eqb-true k j q) (record { early = []; late = z ∷ vs; before = []; from = w ++ ws; first = end; second = datum h r x; values = refl; words = refl })
+    go : (t : Bool) → eqb k j ≡ t → (suc k ≤ j → j < l → Parts head j l (suc k) vs ws) → Parts head j l k (z ∷ vs) (w ++ ws)
+    go true q rest = subst (λ (i : ℕ). Parts head i l k (z ∷ vs) (w ++ ws)) (eqb-true k j q) (record { early = []; late = z ∷ vs; before = []; from = w ++ ws; first = end; second = datum h r x; values = refl; words = refl })
     go false q rest =
         let t = rest (omega (arith, low, eqb-false k j q)) high in
         record {
@@ -100,11 +100,11 @@ below-filled n vs minus plus later p many =
 -- ---- what is faulty is refused
 
 -- the data behind a head
-by-data : {w n : ℕ} (ws : List ℕ) → IsWord w (W.Head n) → T (isHead n) → readList (w ∷ ws) ≡ gather n (w ∷ ws) 0 1 zeros
+by-data : {w n : ℕ} (ws : List ℕ) → IsWord w (W.Head n) → T (isHead n) → readList (w ∷ ws) ≡ gather n n (w ∷ ws) 0 1 zeros
 by-data {w} {n} ws h size = sym (by-head (w ∷ ws) (front-reads (w ∷ ws) 0 w ws refl h) (is-true (isHead n) size))
 
 -- all of them in two parts
-module _ {w n p : ℕ} {vs late : List ℤ} {before from : List ℕ} (rest : List ℕ) (h : IsWord w (W.Head n)) (size : T (isHead n)) (x : DataTo p 0 vs before) (y : DataTo n p late from) where
+module _ {w n p : ℕ} {vs late : List ℤ} {before from : List ℕ} (rest : List ℕ) (h : IsWord w (W.Head n)) (size : T (isHead n)) (x : DataTo n p 0 vs before) (y : DataTo n n p late from) where
   abbrev all-words : List ℕ
   all-words = w ∷ (before ++ (from ++ rest))
 
@@ -119,16 +119,16 @@ module _ {w n p : ℕ} {vs late : List ℤ} {before from : List ℕ} (rest : Lis
 
 pub refuses : {s : List ℕ} {why : Refusal} → IsFault s why → readList s ≡ refusedList why
 unfolding readList gather
-refuses {s} (no-head none) = other-head isHead (wordAt s 0) (λ n. gather n s 0 1 zeros) (refusedList (WrongWord 0)) (lacked (a-head isHead) s 0 none)
+refuses {s} (no-head none) = other-head isHead (wordAt s 0) (λ n. gather n n s 0 1 zeros) (refusedList (WrongWord 0)) (lacked (a-head isHead) s 0 none)
 refuses (F.datum {w} {n} {k} {m} {cause} {vs} {before} {ws} h size low x f) =
     let s = w ∷ (before ++ ws) in
     let y = passed (suc (n - suc k)) x s 1 ws refl zeros (length-replicate dataCount (pos 0)) in
     let many : n ≡ length vs + suc (n - suc k) = omega (arith, how-many x, low) in
     let place : 1 + length before + m ≡ suc (length before + m) = omega arith in
     by-data (before ++ ws) h size
-    ∙ ap (λ (i : ℕ). gather i s 0 1 zeros) many
+    ∙ ap (λ (i : ℕ). gather n i s 0 1 zeros) many
     ∙ y .3
-    ∙ ap (λ (t : D.DatumAnswer). onValue t (λ z next. gather (n - suc k) s (k + 1) next (set (y .0) k z))) (fault-value f s (1 + length before) (behind s 1 before ws refl))
+    ∙ ap (λ (t : D.DatumAnswer). onValue t (λ z next. gather n (n - suc k) s (k + 1) next (set (y .0) k z))) (fault-value f s (1 + length before) (behind s 1 before ws refl))
     ∙ ap (λ (i : ℕ). refusedList (cause i)) place
 refuses (se1 {w} {n} {minus} {plus} {vs} {later} {before} {behind = from} rest h size x y wrong) =
     let t = to-ends rest h size x y in
@@ -161,27 +161,27 @@ module _ (s : List ℕ) (n : ℕ) (head : IsWord (getD s 0 0) (W.Head n)) (size 
   -- a faulty datum, or all of them
   data Walked (why : Refusal) : Type 0 where
     faulty : IsFault s why → Walked why
-    complete : {vs : List ℤ} {ws : List ℕ} (rest : List ℕ) → DataTo n 0 vs ws → drop 1 s ≡ ws ++ rest → Walked why
+    complete : {vs : List ℤ} {ws : List ℕ} (rest : List ℕ) → DataTo n n 0 vs ws → drop 1 s ≡ ws ++ rest → Walked why
 
-  walk : (why : Refusal) (i k at : ℕ) (acc : List ℤ) {vs : List ℤ} {ws : List ℕ} → DataTo k 0 vs ws → drop 1 s ≡ ws ++ drop at s → at ≡ 1 + length ws → i + k ≡ n →
-      gather i s k at acc ≡ refusedList why → Walked why
+  walk : (why : Refusal) (i k at : ℕ) (acc : List ℤ) {vs : List ℤ} {ws : List ℕ} → DataTo n k 0 vs ws → drop 1 s ≡ ws ++ drop at s → at ≡ 1 + length ws → i + k ≡ n →
+      gather n i s k at acc ≡ refusedList why → Walked why
   unfolding gather
-  walk why zero k at acc {vs} {ws} x e here c r = let last : k ≡ n = omega (arith, c) in complete (drop at s) (subst (λ (j : ℕ). DataTo j 0 vs ws) last x) e
+  walk why zero k at acc {vs} {ws} x e here c r = let last : k ≡ n = omega (arith, c) in complete (drop at s) (subst (λ (j : ℕ). DataTo n j 0 vs ws) last x) e
   walk why (suc i) k at acc {vs} {ws} x e here c r =
-      go (valueAt s k at) (read-written s k at) (λ y. value-fault s k at {why = y})
+      go (valueAt n s k at) (read-written n s k at) (λ y. value-fault n s k at {why = y})
       (λ z next vs′ ws′. walk why i (k + 1) next (set acc k z) {vs = vs′} {ws = ws′}) r
     where
-      go : (t : D.DatumAnswer) → ((z : ℤ) (next : ℕ) → t ≡ D.the-variants.Value z next → Wrote s k at z next × T (inRange k z)) →
-          ((y : Refusal) → t ≡ D.the-variants.Refused y → Faulty s k at y) →
-          ((z : ℤ) (next : ℕ) (vs′ : List ℤ) (ws′ : List ℕ) → DataTo (k + 1) 0 vs′ ws′ → drop 1 s ≡ ws′ ++ drop next s → next ≡ 1 + length ws′ → i + (k + 1) ≡ n →
-          gather i s (k + 1) next (set acc k z) ≡ refusedList why → Walked why) →
-          onValue t (λ z next. gather i s (k + 1) next (set acc k z)) ≡ refusedList why → Walked why
+      go : (t : D.DatumAnswer) → ((z : ℤ) (next : ℕ) → t ≡ D.the-variants.Value z next → Wrote s k at z next × T (allowed n k z)) →
+          ((y : Refusal) → t ≡ D.the-variants.Refused y → Faulty n s k at y) →
+          ((z : ℤ) (next : ℕ) (vs′ : List ℤ) (ws′ : List ℕ) → DataTo n (k + 1) 0 vs′ ws′ → drop 1 s ≡ ws′ ++ drop next s → next ≡ 1 + length ws′ → i + (k + 1) ≡ n →
+          gather n i s (k + 1) next (set acc k z) ≡ refusedList why → Walked why) →
+          onValue t (λ z next. gather n i s (k + 1) next (set acc k z)) ≡ refusedList why → Walked why
       go (D.the-variants.Value z next) wrote fault rest g =
           let both = wrote z next refl in
           let w = both .0 in
           let t = joined {l = suc k} x (datum (w .written) (both .1) end) in
           let is : t .0 ≡ ws ++ w .words = t .1 ∙ ap (λ (l : List ℕ). ws ++ l) (append-nil (w .words)) in
-          rest z next (vs ++ (z ∷ [])) (t .0) (subst (λ (j : ℕ). DataTo j 0 (vs ++ (z ∷ [])) (t .0)) (sym (add-one k)) (t .2))
+          rest z next (vs ++ (z ∷ [])) (t .0) (subst (λ (j : ℕ). DataTo n j 0 (vs ++ (z ∷ [])) (t .0)) (sym (add-one k)) (t .2))
           (e ∙ ap (λ (l : List ℕ). ws ++ l) (w .here) ∙ sym (append-assoc ws (w .words) (drop next s)) ∙ ap (λ (l : List ℕ). l ++ drop next s) (sym is))
           (omega (arith, w .far, here, ap length is, length-append ws (w .words)))
           (omega (arith, c))
@@ -191,7 +191,7 @@ module _ (s : List ℕ) (n : ℕ) (head : IsWord (getD s 0 0) (W.Head n)) (size 
           let far : suc (length ws + f .1) ≡ at + f .1 = omega (arith, here) in
           faulty (put (sym (whole ∙ ap (λ (l : List ℕ). getD s 0 0 ∷ l) e)) (ap (f .0) far ∙ sym (f .2) ∙ answer g) (F.datum head size (omega (arith, c)) x (f .3)))
 
-  module _ {vs : List ℤ} {ws : List ℕ} (rest : List ℕ) (x : DataTo n 0 vs ws) (e : drop 1 s ≡ ws ++ rest) where
+  module _ {vs : List ℤ} {ws : List ℕ} (rest : List ℕ) (x : DataTo n n 0 vs ws) (e : drop 1 s ≡ ws ++ rest) where
     -- the data about SE's minus, datum p, and its plus
     record Pair (p : ℕ) : Type 0 where
       pub early : List ℤ
@@ -200,8 +200,8 @@ module _ (s : List ℕ) (n : ℕ) (head : IsWord (getD s 0 0) (W.Head n)) (size 
       pub later : List ℤ
       pub before : List ℕ
       pub from : List ℕ
-      pub first : DataTo p 0 early before
-      pub second : DataTo n p (minus ∷ plus ∷ later) from
+      pub first : DataTo n p 0 early before
+      pub second : DataTo n n p (minus ∷ plus ∷ later) from
       pub values : vs ≡ early ++ (minus ∷ plus ∷ later)
       pub laid : getD s 0 0 ∷ (before ++ (from ++ rest)) ≡ s
       pub place : placeOf s p ≡ suc (length before)
@@ -219,7 +219,7 @@ module _ (s : List ℕ) (n : ℕ) (head : IsWord (getD s 0 0) (W.Head n)) (size 
           before = t .before;
           from = t .from;
           first = t .first;
-          second = subst (λ (y : List ℤ). DataTo n p y (t .from)) (l .3) (t .second);
+          second = subst (λ (y : List ℤ). DataTo n n p y (t .from)) (l .3) (t .second);
           values = t .values ∙ ap (λ (y : List ℤ). t .early ++ y) (l .3);
           laid = ap (λ (l : List ℕ). getD s 0 0 ∷ l) (sym at) ∙ sym whole;
           place = omega (arith, place-behind (t .first) s (t .from ++ rest) at);
@@ -255,7 +255,7 @@ module _ (s : List ℕ) (n : ℕ) (head : IsWord (getD s 0 0) (W.Head n)) (size 
             put (t .laid) (ap SeEnds (sym (t .place)) ∙ answer g) (se2 rest head size (t .first) (t .second) (subst T (sym right) tt) (wrong 13 t q))
         go true p true q g = never (cc (ap (λ (y : ListRead). y .answer) g))
 
-  refused-behind : {why : Refusal} → gather n s 0 1 zeros ≡ refusedList why → IsFault s why
+  refused-behind : {why : Refusal} → gather n n s 0 1 zeros ≡ refusedList why → IsFault s why
   refused-behind {why} r = go (walk why n 0 1 zeros end refl refl (omega arith) r)
     where
       go : Walked why → IsFault s why
@@ -271,4 +271,4 @@ refused s why = (go (fits (a-head isHead) (wordAt s 0)) refl, refuses)
         let t : T (fits (a-head isHead) (wordAt s 0)) = subst T (sym q) tt in
         let h = held-head isHead (wordAt s 0) t in
         refused-behind s (h .0) (read-at s 0 (h .1) (λ x. never (cc))) (h .2) (stands (a-head isHead) s 0 t .2) (by-head s (h .1) (is-true (isHead (h .0)) (h .2)) ∙ r)
-    go false q r = put refl (answer (sym (other-head isHead (wordAt s 0) (λ n. gather n s 0 1 zeros) (refusedList (WrongWord 0)) q) ∙ r)) (no-head (lacks (a-head isHead) s 0 q))
+    go false q r = put refl (answer (sym (other-head isHead (wordAt s 0) (λ n. gather n n s 0 1 zeros) (refusedList (WrongWord 0)) q) ∙ r)) (no-head (lacks (a-head isHead) s 0 q))

@@ -10,7 +10,7 @@ use Rattle.words.specs.declared.Word.the-variants.{Datum}
 use Rattle.words.specs.IsWord.{IsWord}
 use Rattle.words.specs.Breaks.{Sort, a-datum, a-piece, Lacks, Breaks}
 use Rattle.whole.specs.Stands.{StandsFor}
-use Rattle.ranges.specs.Table.{inRange}
+use Rattle.ranges.specs.Table.{allowed}
 use Rattle.datum.specs.Datum.{formPieces}
 use Rattle.datum.specs.Written.{InPieces, Written}
 
@@ -18,15 +18,15 @@ abbrev pub pieces : ℕ → List Sort
 pieces zero = []
 pieces (suc n) = a-piece ∷ pieces n
 
--- the fault of datum k, whose words begin here: its row of the table, and its place counted from here; "per datum 1, 2, 3, 4"
-pub data DatumFault (k : ℕ) : List ℕ → (ℕ → Refusal) → ℕ → Type 0 where
+-- the fault of datum k of a list with this head, whose words begin here: its row of the table, and its place counted from here; "per datum 1, 2, 3, 4"
+pub data DatumFault (head k : ℕ) : List ℕ → (ℕ → Refusal) → ℕ → Type 0 where
   -- "list word missing, of wrong kind, number or bits"
-  no-datum : {ws : List ℕ} → Lacks (a-datum k) ws → DatumFault k ws WrongWord 0
-  no-piece : {w f m : ℕ} {ws : List ℕ} → IsWord w (Datum k f) → Breaks (pieces (formPieces f)) ws m → DatumFault k (w ∷ ws) WrongWord (suc m)
+  no-datum : {ws : List ℕ} → Lacks (a-datum k) ws → DatumFault head k ws WrongWord 0
+  no-piece : {w f m : ℕ} {ws : List ℕ} → IsWord w (Datum k f) → Breaks (pieces (formPieces f)) ws m → DatumFault head k (w ∷ ws) WrongWord (suc m)
   -- "datum open": "place of its kind 2 word"
-  is-open : {w : ℕ} {ws : List ℕ} → IsWord w (Datum k 3) → DatumFault k (w ∷ ws) OpenDatum 0
+  is-open : {w : ℕ} {ws : List ℕ} → IsWord w (Datum k 3) → DatumFault head k (w ∷ ws) OpenDatum 0
   -- "float stands for no whole number": "same"
-  no-single : {w b : ℕ} {ps : List ℕ} (ws : List ℕ) → IsWord w (Datum k 1) → InPieces 2 b ps → ((z : ℤ) → StandsFor (ofBits binary32 b) z → ⊥) → DatumFault k (w ∷ (ps ++ ws)) NoWholeNumber 0
-  no-double : {w b : ℕ} {ps : List ℕ} (ws : List ℕ) → IsWord w (Datum k 2) → InPieces 4 b ps → ((z : ℤ) → StandsFor (ofBits binary64 b) z → ⊥) → DatumFault k (w ∷ (ps ++ ws)) NoWholeNumber 0
+  no-single : {w b : ℕ} {ps : List ℕ} (ws : List ℕ) → IsWord w (Datum k 1) → InPieces 2 b ps → ((z : ℤ) → StandsFor (ofBits binary32 b) z → ⊥) → DatumFault head k (w ∷ (ps ++ ws)) NoWholeNumber 0
+  no-double : {w b : ℕ} {ps : List ℕ} (ws : List ℕ) → IsWord w (Datum k 2) → InPieces 4 b ps → ((z : ℤ) → StandsFor (ofBits binary64 b) z → ⊥) → DatumFault head k (w ∷ (ps ++ ws)) NoWholeNumber 0
   -- "datum out of range": "same"
-  beyond : {z : ℤ} {w : List ℕ} (ws : List ℕ) → Written k z w → (T (inRange k z) → ⊥) → DatumFault k (w ++ ws) OutOfRange 0
+  beyond : {z : ℤ} {w : List ℕ} (ws : List ℕ) → Written k z w → (T (allowed head k z) → ⊥) → DatumFault head k (w ++ ws) OutOfRange 0

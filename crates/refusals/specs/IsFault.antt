@@ -18,10 +18,10 @@ pub data IsFault : List ℕ → Refusal → Type 0 where
   -- "list word missing, of wrong kind, number or bits"
   no-head : {s : List ℕ} → Lacks (a-head isHead) s → IsFault s (WrongWord 0)
   -- "The first faulty datum gives the answer"
-  datum : {w n k m : ℕ} {cause : ℕ → Refusal} {vs : List ℤ} {before ws : List ℕ} → IsWord w (Head n) → T (isHead n) → k < n → DataTo k 0 vs before → DatumFault k ws cause m →
+  datum : {w n k m : ℕ} {cause : ℕ → Refusal} {vs : List ℤ} {before ws : List ℕ} → IsWord w (Head n) → T (isHead n) → k < n → DataTo n k 0 vs before → DatumFault n k ws cause m →
       IsFault (w ∷ (before ++ ws)) (cause (suc (length before + m)))
   -- "SE minus not below its plus": "place of the minus datum"; "then 5, SE1 first"
-  se1 : {w n : ℕ} {minus plus : ℤ} {vs later : List ℤ} {before behind : List ℕ} (rest : List ℕ) → IsWord w (Head n) → T (isHead n) → DataTo 11 0 vs before → DataTo n 11 (minus ∷ plus ∷ later) behind →
+  se1 : {w n : ℕ} {minus plus : ℤ} {vs later : List ℤ} {before behind : List ℕ} (rest : List ℕ) → IsWord w (Head n) → T (isHead n) → DataTo n 11 0 vs before → DataTo n n 11 (minus ∷ plus ∷ later) behind →
       (T (ltZ minus plus) → ⊥) → IsFault (w ∷ (before ++ (behind ++ rest))) (SeEnds (suc (length before)))
-  se2 : {w n : ℕ} {minus plus : ℤ} {vs later : List ℤ} {before behind : List ℕ} (rest : List ℕ) → IsWord w (Head n) → T (isHead n) → DataTo 13 0 vs before → DataTo n 13 (minus ∷ plus ∷ later) behind →
+  se2 : {w n : ℕ} {minus plus : ℤ} {vs later : List ℤ} {before behind : List ℕ} (rest : List ℕ) → IsWord w (Head n) → T (isHead n) → DataTo n 13 0 vs before → DataTo n n 13 (minus ∷ plus ∷ later) behind →
       T (seBelow vs 11) → (T (ltZ minus plus) → ⊥) → IsFault (w ∷ (before ++ (behind ++ rest))) (SeEnds (suc (length before)))

@@ -3,6 +3,8 @@ use Prim.Native.Nat.{ℕ, zero, suc, _≤_, _<_, min}
 use mathlib.Core.Path.{_≡_, refl, sym, _∙_, subst}
 use mathlib.Core.Bool.{Bool, true, false, cond}
 use mathlib.Core.List.{List, [], _∷_}
+use mathlib.Core.Logic.{by-cases}
+use native.Mathlib.Decide.{decLe}
 use native.Mathlib.Nat.{not-suc-le-zero}
 use native.Mathlib.Omega.{arith}
 use lib.Dec.{T}
@@ -40,6 +42,10 @@ module _ (so : ℕ → Bool) where
   counted true r l e = omega (arith, e)
   counted false r l e = refl
 
+counted-on : (t : ℕ) → t ≤ 1000 → (m : ℕ) → t < m → t < runNext true m
+unfolding runNext
+counted-on t small m l = omega (arith, small, l)
+
 -- r n is the run before cycle n
 module _ (usable so : ℕ → Bool) (r : ℕ → ℕ) (fresh : r 0 ≡ 0) (counts : (n : ℕ) → r (suc n) ≡ cond (usable n) (runNext (so n) (r n)) (r n)) where
   is-leading : (n : ℕ) → r n ≡ min (leading so (usableBefore usable n)) 1001
@@ -61,6 +67,23 @@ module _ (usable so : ℕ → Bool) (r : ℕ → ℕ) (fresh : r 0 ≡ 0) (count
 
     pub running-above : Running usable so t n → t < r (suc n)
     running-above x = omega (arith, is-leading (suc n), led so t (usableBefore usable (suc n)) (x .enough) (x .all-so))
+
+  -- where it was so up to cycle a and is so in every usable cycle since, it is so up to n, for the same t
+  module _ (t : ℕ) (small : t ≤ 1000) (a : ℕ) (x : Running usable so t a) where
+    goes-on : (n : ℕ) → a ≤ n → ((i : ℕ) → a < i → i ≤ n → T (usable i) → T (so i)) → t < r (suc n)
+    goes-on zero l h = subst (λ (k : ℕ). t < r (suc k)) (omega (arith, l)) (running-above t a small x)
+    goes-on (suc n) l h = by-cases (decLe a n) (λ (k : a ≤ n). later k (goes-on n k (λ i low high. h i low (omega (arith, high))))) (λ k. subst (λ (k : ℕ). t < r (suc k)) (omega (arith, l, k)) (running-above t a small x))
+      where
+        later : a ≤ n → t < r (suc n) → t < r (suc (suc n))
+        later k above = subst (λ (m : ℕ). t < m) (sym (counts (suc n))) (go (usable (suc n)) refl (so (suc n)) refl)
+          where
+            go : (u : Bool) → usable (suc n) ≡ u → (b : Bool) → so (suc n) ≡ b → t < cond u (runNext b (r (suc n))) (r (suc n))
+            go true p true q = counted-on t small (r (suc n)) above
+            go true p false q = absurd (subst T q (h (suc n) (omega (arith, k)) (omega arith) (subst T (sym p) tt)))
+            go false p b q = above
+
+    pub still-running : (n : ℕ) → a ≤ n → ((i : ℕ) → a < i → i ≤ n → T (usable i) → T (so i)) → T (usable n) → Running usable so t n
+    still-running n l h u = above-running t n small u (goes-on n l h)
 
 -- the last of them is one in which it is so
 pub so-last : (usable so : ℕ → Bool) (t n : ℕ) → Running usable so t n → T (so n)

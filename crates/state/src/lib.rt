@@ -2,6 +2,7 @@
 ghost use mathlib.Core.Path.{_≡_};
 ghost use Rattle.state.specs.State.{freshState};
 use comparison::Fault;
+use direction::Directions;
 use distance::Previous;
 use inputs::Reading;
 use nx_signal::Signal;
@@ -20,6 +21,8 @@ pub struct Kept {
     pub fault: Fault,
     // n<nx, worked out while its function is off too
     pub nx: Signal,
+    // safe direction
+    pub directions: Directions,
 }
 
 // What a cycle changes. The previous position stands last: behind it a choice, which a cycle reads as one word, would be
@@ -56,6 +59,7 @@ impl State {
                 differing: 0,
                 fault: Fault { on: false, left: 0 },
                 nx: Signal { run: 0, on: false },
+                directions: Directions::none(),
             },
             stop: Stop::Free,
             previous: Previous::Absent,

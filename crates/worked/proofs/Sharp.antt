@@ -6,7 +6,7 @@ use Rattle.demand_3.specs.Calls.{Answers}
 use Rattle.runs.specs.Running
 use Rattle.demand_3.specs.Claims
 use Rattle.demand_3.proofs.Answered.{answered}
-use Rattle.worked.specs.Sharp.{list, nxAlone, moving, leaving, differing, deselected, lowering, calls, words, Sharp}
+use Rattle.worked.specs.Sharp.{list, nxAlone, directed, moving, leaving, differing, deselected, lowering, falling, calls, words, Sharp}
 use Rattle.worked.proofs.Computing.{the-cycle, the-calls}
 
 -- the words that the calls give
@@ -15,11 +15,14 @@ unfolding the-calls list moving calls
 given = refl
 
 pub sharp : Sharp
-unfolding the-cycle Claims.causeOf Running.usableBefore list nxAlone moving leaving differing deselected lowering
+unfolding the-cycle Claims.causeOf Running.usableBefore list nxAlone moving leaving differing deselected lowering directed falling
 sharp =
     record {
       overstepped-1 = (refl, refl);
       met-in-1 = (refl, refl);
+      watched-from-1 = (refl, refl);
+      overstepped-4 = (refl, refl);
+      met-in-4 = (refl, refl);
       entered-1 = (refl, refl);
       held-in-3 = (refl, refl);
       held-in-a-log = subst (Answers (freshChannel list) calls) given (answered (freshChannel list) calls .1);

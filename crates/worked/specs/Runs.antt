@@ -31,8 +31,11 @@ withEntries d [] = d
 withEntries d (e ∷ es) = withEntries (set d (e .number) (e .value)) es
 
 -- "12 and 14=100,000,000 .. else lowest", and the entries
+abbrev pub headed : ℕ → List Entry → MachineData
+headed n es = record { values = filled n (withEntries (set (set (lowest n 0) 12 (pos 100_000_000)) 14 (pos 100_000_000)) es); count = n }
+
 unfoldable pub listOf : List Entry → MachineData
-listOf es = record { values = filled 51 (withEntries (set (set (lowest 51 0) 12 (pos 100_000_000)) 14 (pos 100_000_000)) es); count = 51 }
+listOf es = headed 51 es
 
 -- a cycle of both channels: alike in position and input word, or apart in one of them
 abbrev pub alike : ℤ → ℕ → CycleRecord

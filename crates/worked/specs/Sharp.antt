@@ -27,7 +27,7 @@ use Rattle.demand_3.specs.History.{history}
 use Rattle.runs.specs.Running.{window}
 use Rattle.demand_3.specs.Claims
 use Rattle.demand_3.specs.Claims.{rankInWord, rankInDevice}
-use Rattle.worked.specs.Runs.{is, listOf, alike, positionsApart, cyclesWith}
+use Rattle.worked.specs.Runs.{is, headed, listOf, alike, positionsApart, cyclesWith}
 
 -- T 12, some functions on, standstill tolerance 10, limit of SG1 2000 with STOP C; the delay and all times 2; else the lowest
 abbrev pub listWith : ℕ → MachineData
@@ -42,6 +42,10 @@ list = listWith 1
 -- n<nx alone
 unfoldable pub nxAlone : MachineData
 nxAlone = listWith 8
+
+-- safe direction alone: tolerance 10, delay 1, STOP C; times 0; else the lowest
+unfoldable pub directed : MachineData
+directed = headed 72 (is 0 12 ∷ is 1 32 ∷ is 69 10 ∷ is 70 1 ∷ is 71 3 ∷ [])
 
 -- ---- what the cycles make, and the words that they give beside a channel without a stop
 
@@ -96,6 +100,10 @@ deselected = differingThen 1 ++ replicate 3 (alike (pos 0) 2)
 unfoldable pub lowering : List CycleRecord
 lowering = alike (pos 0) 1 ∷ replicate 3 (alike (pos 0) 0)
 
+-- travel is bound to the positive direction from cycle 0 on: bit 13 is 0 and bit 14 is 1. The axis falls before the watch begins in 1, rises, and falls again
+unfoldable pub falling : List CycleRecord
+falling = alike (pos 50) 16384 ∷ alike (pos 0) 16384 ∷ alike (pos 100) 16384 ∷ alike (pos 90) 16384 ∷ alike (pos 89) 16384 ∷ []
+
 -- the first four cycles of `moving` as calls: two single ones and a log, in which the channel is B beside one that went through the same cycles
 abbrev pub recordWords : ℕ → List ℕ
 recordWords p =
@@ -114,6 +122,11 @@ pub record Sharp : Type 0 where
   -- cause 3 stands in 1 with C's rank: the device rank is no more than that, and 0 in the cycle before
   pub overstepped-1 : (causeIn list moving 1 3 .stands ≡ true) × (causeIn list moving 1 3 .rank ≡ C)
   pub met-in-1 : (rankInDevice (device list moving 0) ≡ 0) × (rankInDevice (device list moving 1) ≡ 3)
+  -- W6: with the delay at 1 the watch begins in 1, so that what the axis fell before does not count; it is 10 below the highest in 3, as far as the
+  -- tolerance, and farther in 4: cause 14 stands there with C's rank, and the device rank is no more than that and 0 in the cycle before
+  pub watched-from-1 : (causeIn directed falling 1 14 .stands ≡ false) × (causeIn directed falling 3 14 .stands ≡ false)
+  pub overstepped-4 : (causeIn directed falling 4 14 .stands ≡ true) × (causeIn directed falling 4 14 .rank ≡ C)
+  pub met-in-4 : (rankInDevice (device directed falling 3) ≡ 0) × (rankInDevice (device directed falling 4) ≡ 3)
   -- C, entered in 1 with time 2, is not yet held in 2
   pub entered-1 : (entered list moving 1 ≡ C) × (timeOf (list .values) C ≡ 2)
   pub held-in-3 : (channel list moving 2 ≡ 0x03000081) × (channel list moving 3 ≡ 0x0b000081)

@@ -8,15 +8,17 @@
 
 use super::{Channel, Cycle, Report};
 use crate::causes::{Run, F};
+use crate::direction::{Directions, Watched};
 use crate::list::Refusal;
 use crate::log::{self, Record};
-use crate::machine_data::{number, range, MachineData, COUNT};
+use crate::machine_data::{number, range, Function, MachineData, COUNT};
 use crate::nx::Nx;
 use crate::selection::{Selection, Selections};
 use crate::stop::{Rank, Stop};
+use crate::Paper;
 
 /// The words of a state.
-pub const WORDS: usize = 19;
+pub const WORDS: usize = 25;
 
 /// The state of a channel: a signed number stands in two's complement.
 pub type Image = [u32; WORDS];
@@ -61,6 +63,18 @@ pub mod word {
     pub const NX: usize = 17;
     /// The run of n<nx.
     pub const NX_RUN: usize = 18;
+    /// The run of the positive direction.
+    pub const POSITIVE_RUN: usize = 19;
+    /// Whether it has a watch.
+    pub const POSITIVE_WATCH: usize = 20;
+    /// The watch's extreme: the highest position since it began.
+    pub const POSITIVE_EXTREME: usize = 21;
+    /// The run of the negative direction.
+    pub const NEGATIVE_RUN: usize = 22;
+    /// Whether it has a watch.
+    pub const NEGATIVE_WATCH: usize = 23;
+    /// The watch's extreme: the lowest position since it began.
+    pub const NEGATIVE_EXTREME: usize = 24;
 }
 
 /// The names of the words, as the header has them behind `MONITOR_STATE_`.
@@ -84,10 +98,19 @@ pub const NAMES: [&str; WORDS] = [
     "CAMS",
     "NX",
     "NX_RUN",
+    "POSITIVE_RUN",
+    "POSITIVE_WATCH",
+    "POSITIVE_EXTREME",
+    "NEGATIVE_RUN",
+    "NEGATIVE_WATCH",
+    "NEGATIVE_EXTREME",
 ];
 
 /// The data of the cams' edges.
 const CAMS: std::ops::Range<usize> = number::CAM..number::CAM + 8;
+
+/// The words of both directions.
+const DIRECTIONS: std::ops::RangeInclusive<usize> = word::POSITIVE_RUN..=word::NEGATIVE_EXTREME;
 
 const BRAKING: u32 = 1;
 const HELD: u32 = 2;
@@ -171,17 +194,22 @@ impl Lent {
         if self.channel.k >= COUNT {
             self.channel.k = 0;
         }
-        let cams = self.state[word::CAMS];
+        let before = self.state;
         self.state = image(&self.channel, count);
-        if cycle.causes.stands(1) {
+        let usable = !cycle.causes.stands(1);
+        if !usable {
             // "selections, references and cams stay", bits of no cam too.
-            self.state[word::CAMS] = cams;
+            self.state[word::CAMS] = before[word::CAMS];
+        }
+        if !(usable && self.channel.data.has(Paper, Function::SafeDirection)) {
+            // Where the directions stay, their words are not written: any word of a watch, and what stands behind none.
+            self.state[DIRECTIONS].copy_from_slice(&before[DIRECTIONS]);
         }
         cycle
     }
 }
 
-/// [`log::run`]
+/// [`log::run`], which writes all words of both channels, without a cycle too.
 pub fn run_log(a: &mut Lent, b: &mut Lent, log: &[u32], out: &mut [u32]) -> Result<usize, Refusal> {
     let cycles = log::room(log, out)?;
     a.state = written(&a.state);
@@ -233,6 +261,15 @@ fn image(channel: &Channel, count: u32) -> Image {
         (None, Rank::A) => [CANCELLED, 0, 0],
         (None, rank) => [BRAKING, rank.number(), stop.count as u32],
     };
+    let Directions { positive, negative } = channel.directions;
+    let [positive, negative] = [positive, negative].map(|watched| {
+        let watch = watched.watch;
+        [
+            watched.run as u32,
+            watch.is_some().into(),
+            watch.unwrap_or(0) as u32,
+        ]
+    });
     [
         count,
         channel.k as u32,
@@ -253,6 +290,12 @@ fn image(channel: &Channel, count: u32) -> Image {
         channel.cams(),
         channel.nx.value.into(),
         channel.nx.run as u32,
+        positive[0],
+        positive[1],
+        positive[2],
+        negative[0],
+        negative[1],
+        negative[2],
     ]
 }
 
@@ -260,11 +303,17 @@ fn image(channel: &Channel, count: u32) -> Image {
 fn written(state: &Image) -> Image {
     let mut written = *state;
     written[word::K] &= 0xff;
-    for flag in [word::HAS_PREVIOUS, word::SELECTED, word::F, word::NX] {
+    for flag in [word::SELECTED, word::F, word::NX] {
         written[flag] = written[flag].min(1);
     }
-    if written[word::HAS_PREVIOUS] == 0 {
-        written[word::PREVIOUS] = 0;
+    for flag in [
+        word::HAS_PREVIOUS,
+        word::POSITIVE_WATCH,
+        word::NEGATIVE_WATCH,
+    ] {
+        written[flag] = written[flag].min(1);
+        // The position stands behind it.
+        written[flag + 1] *= written[flag];
     }
     written[word::EFFECTIVE] = written[word::EFFECTIVE].min(2);
     for of_sg in [word::SG, word::OVERRIDE] {
@@ -286,7 +335,7 @@ fn channel_of(data: &[i32; COUNT], state: &Image) -> Channel {
         if CAMS.contains(&number) {
             return data[number];
         }
-        let (low, high) = range(number);
+        let (low, high) = range(COUNT, number);
         data[number].clamp(low, high)
     };
     let head = state[word::COUNT] as usize;
@@ -316,7 +365,20 @@ fn channel_of(data: &[i32; COUNT], state: &Image) -> Channel {
     channel.stop = stop_of(&state);
     channel.cams = std::array::from_fn(|cam| state[word::CAMS] >> cam & 1 == 1);
     channel.nx = Nx::of(state[word::NX] != 0, state[word::NX_RUN].into());
+    channel.directions = Directions {
+        positive: watched_of(&state, word::POSITIVE_RUN),
+        negative: watched_of(&state, word::NEGATIVE_RUN),
+    };
     channel
+}
+
+/// Run, watch and extreme of three words.
+fn watched_of(state: &Image, first: usize) -> Watched {
+    let watch = state[first + 1] != 0;
+    Watched::of(
+        state[first].into(),
+        watch.then_some(state[first + 2] as i32),
+    )
 }
 
 /// The stop of three words.

@@ -230,7 +230,7 @@ impl Assembly {
         list.go_to(from, before)?;
         for number in from..=to {
             let mut tokens = given.clone().into_iter().peekable();
-            let datum = datum(number, &mut tokens)?;
+            let datum = datum(list.data.count, number, &mut tokens)?;
             if let Some(surplus) = tokens.next() {
                 return Err(format!("'{surplus}' is surplus"));
             }
@@ -310,7 +310,8 @@ impl List {
     /// Writes the data before this one.
     fn write_to(&mut self, number: usize, before: &Stated) {
         for number in self.next..number {
-            self.write(number, self.otherwise.datum(number, before));
+            let datum = self.otherwise.datum(self.data.count, number, before);
+            self.write(number, datum);
         }
     }
 
@@ -453,21 +454,21 @@ fn numbers(token: &str, count: usize) -> Result<(usize, usize), String> {
 }
 
 /// `2000`, `0x000007d0`, `binary32 2000`, `binary64 0x409f400000000000`, `open`, `highest+1`
-fn datum(number: usize, tokens: &mut Tokens) -> Result<Datum, String> {
+fn datum(count: usize, number: usize, tokens: &mut Tokens) -> Result<Datum, String> {
     match next(tokens, "a value")? {
         "open" => Ok(Datum::Open),
         "binary32" => {
-            let value = at_end(number, next(tokens, "a value")?)?;
+            let value = at_end(count, number, next(tokens, "a value")?)?;
             binary32(&value).map(Datum::Binary32)
         }
         "binary64" => {
-            let value = at_end(number, next(tokens, "a value")?)?;
+            let value = at_end(count, number, next(tokens, "a value")?)?;
             binary64(&value).map(Datum::Binary64)
         }
         token if token.starts_with("0x") => word(token).map(|bits| Datum::Whole(bits as i32)),
         token => {
             let (low, high) = (i64::from(i32::MIN), i64::from(i32::MAX));
-            let value = at_end(number, token)?;
+            let value = at_end(count, number, token)?;
             integer(&value, low, high, "a 32-bit whole number")
                 .map(|value| Datum::Whole(value as i32))
         }
@@ -475,8 +476,8 @@ fn datum(number: usize, tokens: &mut Tokens) -> Result<Datum, String> {
 }
 
 /// `lowest-1`, `highest` as a number's text; any other text as it is.
-fn at_end(number: usize, token: &str) -> Result<String, String> {
-    let (low, high) = range(number);
+fn at_end(count: usize, number: usize, token: &str) -> Result<String, String> {
+    let (low, high) = range(count, number);
     let lowest = token.strip_prefix("lowest").map(|offset| (low, offset));
     let highest = token.strip_prefix("highest").map(|offset| (high, offset));
     match lowest.or(highest) {

@@ -1,6 +1,7 @@
 //! Input words in readable form.
 
 use crate::channel::{bit, INPUT_BITS};
+use crate::direction::DIRECTION_BITS;
 use crate::gear::GEAR_BITS;
 
 /// The external stops, with their letters and input bits.
@@ -14,6 +15,13 @@ const STOPS: [(&str, u32); 4] = [
 /// The bits of all four external stops.
 const ALL_STOPS: u32 = 0xf << 18;
 
+/// The ways that safe direction leaves, with their input bits; none while both bits are 0.
+const WAYS: [(&str, u32); 3] = [
+    ("positive-only", 1 << 14),
+    ("negative-only", 1 << 13),
+    ("both-ways", DIRECTION_BITS),
+];
+
 /// An input word being put together.
 #[derive(Clone, Copy, Debug, Default)]
 pub struct InputWord {
@@ -23,6 +31,7 @@ pub struct InputWord {
     se: bool,
     override_given: bool,
     gear_given: bool,
+    way: bool,
     no_stop: bool,
     stops: u32,
 }
@@ -66,6 +75,14 @@ impl InputWord {
             }
             "no-stop" => self.no_stop = true,
             "bit" => self.bits |= 1 << number_below(32, "a bit number", rest)?,
+            _ if WAYS.iter().any(|way| way.0 == token) => {
+                if self.way {
+                    return Err("the direction is given twice".into());
+                }
+                self.way = true;
+                let way = WAYS.iter().find(|way| way.0 == token);
+                self.bits |= way.map_or(0, |way| way.1);
+            }
             _ if STOPS.iter().any(|stop| stop.0 == token) => {
                 let stop = STOPS
                     .iter()
@@ -120,7 +137,7 @@ fn number_below(end: u32, what: &str, rest: &mut dyn Iterator<Item = &str>) -> R
 
 /// An input word as text, in words if each of its bits has a meaning.
 pub fn show(inputs: u32) -> String {
-    if inputs & !(INPUT_BITS | GEAR_BITS) != 0 {
+    if inputs & !(INPUT_BITS | GEAR_BITS | DIRECTION_BITS) != 0 {
         return format!("0x{inputs:08x}");
     }
     let mut items: Vec<String> = Vec::new();
@@ -145,6 +162,8 @@ pub fn show(inputs: u32) -> String {
     if bit(inputs, 12) {
         items.push("SE2".into());
     }
+    let way = WAYS.iter().find(|way| way.1 == inputs & DIRECTION_BITS);
+    items.extend(way.map(|way| way.0.into()));
     match inputs & ALL_STOPS {
         0 => (),
         ALL_STOPS => items.push("no-stop".into()),

@@ -65,12 +65,12 @@ enum Else {
 }
 
 impl Else {
-    /// The datum of this number.
-    fn datum(self, number: usize, before: &Stated) -> Datum {
+    /// The datum of this number in a list of so many.
+    fn datum(self, count: usize, number: usize, before: &Stated) -> Datum {
         match self {
             Else::Lowest => Datum::Whole(machine_data::lowest(number)),
-            Else::Highest if number == 11 || number == 13 => Datum::Whole(range(number).0),
-            Else::Highest => Datum::Whole(range(number).1),
+            Else::Highest if number == 11 || number == 13 => Datum::Whole(range(count, number).0),
+            Else::Highest => Datum::Whole(range(count, number).1),
             Else::AsA => before.data[number],
         }
     }

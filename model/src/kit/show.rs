@@ -168,7 +168,7 @@ impl Found {
         while number < self.data.count {
             let rest = &words[self.behind..];
             if let Some((datum, length)) = Datum::read(rest, number) {
-                let usual = otherwise.datum(number, before) == datum;
+                let usual = otherwise.datum(self.data.count, number, before) == datum;
                 if !usual {
                     self.lines.push(datum_line(number, datum));
                 }

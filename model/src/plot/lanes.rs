@@ -1,6 +1,7 @@
 //! The lanes of a picture: which there are, and what each shows.
 
 use super::trace::{Channelled, Gear, Seen};
+use crate::direction::Watched;
 use crate::machine_data::{number, Function, MachineData, HEADS};
 use crate::selection::Selection;
 use crate::stop::Rank;
@@ -74,7 +75,7 @@ pub fn of(seen: &[Seen]) -> Vec<Lane> {
     let b: Vec<&Channelled> = seen.iter().map(|seen| &seen.b).collect();
     let mut lanes = Vec::new();
     lanes.extend(position(&a, &b));
-    for of_channel in [speed, gear, selection, causes, f, stop] {
+    for of_channel in [speed, gear, selection, direction, causes, f, stop] {
         lanes.extend(both(of_channel, &a, &b));
     }
     lanes.extend(acknowledgement(seen, &a, &b));
@@ -200,7 +201,73 @@ impl Guide {
 
 /// The bounds that positions are held against in these cycles.
 fn guides(side: &Side) -> Vec<Guide> {
-    standstill(side).into_iter().chain(cam(side)).collect()
+    let positions = standstill(side).into_iter().chain(cam(side));
+    let extremes = DIRECTIONS
+        .iter()
+        .filter_map(|direction| extreme(side, direction));
+    positions.chain(extremes).collect()
+}
+
+/// The extreme of a direction's watch, and the farthest that its tolerance allows behind it.
+fn extreme(side: &Side, direction: &Direction) -> Option<Guide> {
+    let &(_, name, sign, of) = direction;
+    let tolerance = side.first()?.after.data().get(number::DIRECTION_TOLERANCE);
+    let bound = |behind: i32| {
+        each(side, |cycle| {
+            let watch = of(cycle).watch;
+            watch.map(|extreme| i64::from(extreme) - sign * i64::from(behind))
+        })
+    };
+    let bounds = [bound(0), bound(tolerance)];
+    let apart = match sign {
+        1 => format!("- tolerance {tolerance}"),
+        _ => format!("+ tolerance {tolerance}"),
+    };
+    bounds[0].iter().any(Option::is_some).then(|| Guide {
+        name: name.into(),
+        apart,
+        bounds,
+    })
+}
+
+/// A direction: what it allows, what its extreme is, its sign, and what is kept of it.
+type Direction = (&'static str, &'static str, i64, fn(&Channelled) -> Watched);
+
+const DIRECTIONS: [Direction; 2] = [
+    ("positive only", "highest", 1, |cycle| {
+        cycle.after.directions().positive
+    }),
+    ("negative only", "lowest", -1, |cycle| {
+        cycle.after.directions().negative
+    }),
+];
+
+/// The directions that are asked for, each with its watch and, while it has none, its run.
+fn direction(side: &Side) -> Option<Lane> {
+    let delay = side.first()?.after.data().get(number::DIRECTION_DELAY);
+    let mut directions = Vec::new();
+    for (label, _, _, of) in DIRECTIONS {
+        let asked = each(side, |cycle| cycle.d.is_some() && of(cycle).run > 0);
+        if !asked.contains(&true) {
+            continue;
+        }
+        let watched = each(side, |cycle| of(cycle).watch.is_some());
+        let waits = each(side, |cycle| {
+            let run = of(cycle).run;
+            (cycle.d.is_some() && run > 0 && run <= i64::from(delay) + 1).then_some(run)
+        });
+        directions.push(Row {
+            label: label.into(),
+            cells: Cells::Pairs(asked, watched),
+        });
+        directions.extend(numbers(&format!("run, delay {delay}"), waits));
+    }
+    let mut lane = rows("direction", directions)?;
+    lane.legend = vec![
+        (Some(Style::Hollow), "asked for".into()),
+        (Some(Style::Filled), "watched".into()),
+    ];
+    Some(lane)
 }
 
 /// Datum 2 on either side of the reference of a hold or of SBH, in the cycles that look at it.
@@ -280,7 +347,7 @@ fn speed(side: &Side) -> Option<Lane> {
 /// Whether these cycles show n<nx by a list that has its hysteresis and its filter.
 fn shows_nx(side: &Side) -> bool {
     let data = side.first().map(|cycle| cycle.after.data());
-    data.is_some_and(|data| data.head() == HEADS[2] && data.has(Paper, Function::Nx))
+    data.is_some_and(|data| data.head() >= HEADS[2] && data.has(Paper, Function::Nx))
 }
 
 /// nx, and nx plus hysteresis if that is another, as hundredths of mm/min.
@@ -403,7 +470,7 @@ fn causes(side: &Side) -> Option<Lane> {
 }
 
 /// The causes, from code 1 on.
-const CAUSES: [&str; 13] = [
+const CAUSES: [&str; 14] = [
     "unusable",
     "SBH",
     "SG",
@@ -417,6 +484,7 @@ const CAUSES: [&str; 13] = [
     "inputs",
     "datum k or head",
     "F's time",
+    "direction",
 ];
 
 /// F, and its count while it is on.

@@ -8,8 +8,8 @@ use crate::channel::{bit, Report};
 use crate::gear::GEAR_BITS;
 use crate::list::Refusal;
 use crate::log::Record;
-use crate::machine_data::{Function, COUNT, HEADS};
-use crate::{device, list, log, nx, words, Paper};
+use crate::machine_data::{number, Function, COUNT, HEADS};
+use crate::{device, direction, list, log, nx, words, Paper};
 use std::fmt;
 
 /// How many channels a list of calls has.
@@ -398,10 +398,26 @@ impl Calls {
     }
 }
 
+/// The channel after a cycle.
+fn after_cycle(before: &Lent, call: &Call) -> Option<Lent> {
+    let &Call::Cycle {
+        position,
+        inputs,
+        report,
+        ..
+    } = call
+    else {
+        return None;
+    };
+    let mut after = before.clone();
+    after.cycle(position, inputs, false, report);
+    Some(after)
+}
+
 /// What a report may say of a head: one of them, one beside them, or any word.
 fn other_head(random: &mut Xorshift) -> usize {
     let any = odd(random);
-    random.pick(&[0, 50, 51, 52, 66, 67, 68, 69, 70, any]) as usize
+    random.pick(&[0, 50, 51, 52, 66, 67, 68, 69, 70, 71, 72, 73, any]) as usize
 }
 
 /// A number of any size, often one beside an end.
@@ -411,7 +427,8 @@ fn odd(random: &mut Xorshift) -> u32 {
         0 => any,
         1 => any >> random.below(32),
         2 => random.pick(&[
-            0, 1, 2, 3, 5, 50, 51, 66, 67, 68, 69, 70, 255, 256, 1_000, 1_001, 1_002,
+            0, 1, 2, 3, 5, 32, 50, 51, 63, 66, 67, 68, 69, 70, 71, 72, 73, 255, 256, 1_000, 1_001,
+            1_002,
         ]),
         _ => random.pick(&[
             1 << 31,
@@ -448,8 +465,8 @@ named! {
         HeadAlone: "cause 12 by the head alone",
         FOverInactive: "no cause 13 with F's count at 0, as nothing is active",
         Cause13Later: "cause 13 by a selection that came later",
-        GearOfList: "a cycle with a gear's bits and a list headed 67 or 69",
-        GearOfCount: "a cycle with a gear's bits and a count above 69",
+        GearOfList: "a cycle with a gear's bits and a list headed 67, 69 or 72",
+        GearOfCount: "a cycle with a gear's bits and a count above 72",
         GearBelow67: "a cycle with a gear's bits and a count below 67",
         NxAnyWord: "a usable cycle with a word above 1 for n<nx",
         NxKept: "n<nx kept at 1 with no run",
@@ -457,11 +474,27 @@ named! {
         NxUnusable: "an unusable cycle with n<nx at 1 and a run",
         NxLongestRun: "a run of n<nx that stays at 1,001",
         NxRunBeyond: "a run of n<nx above 1,001",
+        WatchAnyWord: "a usable cycle with a word above 1 for a watch and safe direction on",
+        WatchOfShortRun: "a usable cycle with a watch whose run is no longer than its delay",
+        WatchWithoutFunction: "a usable cycle with a watch and safe direction off",
+        OverstepWithoutFunction: "a watch that is overstepped with safe direction off",
+        WatchUnusable: "an unusable cycle with a watch",
+        WatchWordLeft: "a word above 1 for a watch left as it is",
+        ExtremeLeft: "an extreme without a watch left as it is",
+        WatchWordInLog: "a word above 1 for a watch before an accepted log",
+        DirectionLongestRun: "a direction's run that stays at 1,001",
+        DirectionRunBeyond: "a direction's run above 1,001",
+        DirectionBelow72: "a usable cycle with safe direction on and a count below 72",
         NoCause: "no cause",
         NotUpwards: "codes that do not stand upwards",
         SgBefore5: "code 3 before 5",
         SgBeforeSe: "code 3 before 4",
         SeBeforeSg: "code 4 before 3",
+        DirectionBeforeSe: "code 14 before 4",
+        DirectionBeforeRank4: "code 14 before 2, 9 or 13",
+        DirectionBehindRank4: "code 14 behind 2, 9 or 13",
+        DirectionBeforeRankless: "code 14 before 10, 11 or 12",
+        DirectionLast: "code 14 last, behind others",
         Rank4: "two of codes 2, 9 and 13 side by side",
         ManyCodes: "eight codes or more",
         Held: "held",
@@ -497,7 +530,7 @@ pub struct ReachedCalls {
     cycles: u64,
     /// Refused lists by number, 1 first.
     refused: [u64; 5],
-    causes: [u64; 13],
+    causes: [u64; 14],
     /// Channel words by rank.
     ranks: [u64; 6],
     events: Vec<u64>,
@@ -510,7 +543,7 @@ impl Default for ReachedCalls {
             calls: 0,
             cycles: 0,
             refused: [0; 5],
-            causes: [0; 13],
+            causes: [0; 14],
             ranks: [0; 6],
             events: vec![0; Event::NAMES.len()],
         }
@@ -588,7 +621,10 @@ impl ReachedCalls {
                 let alone = codes.contains(&12) && own.datum == report.datum;
                 self.event(Event::HeadAlone, alone);
                 self.f(&before.0[of], codes);
-                self.nx(&before.0[of], call, codes);
+                if let Some(after) = after_cycle(&before.0[of], call) {
+                    self.nx(&before.0[of], &after, codes);
+                    self.directions(&before.0[of], &after, codes);
+                }
                 self.cycle(word, codes, &mut pasts[of]);
                 pasts[of].k = before.0[of].channel().k();
             }
@@ -626,19 +662,8 @@ impl ReachedCalls {
     }
 
     /// What n<nx comes to.
-    fn nx(&mut self, before: &Lent, call: &Call, codes: [u8; 13]) {
-        let &Call::Cycle {
-            position,
-            inputs,
-            report,
-            ..
-        } = call
-        else {
-            return;
-        };
-        let mut after = before.clone();
-        after.cycle(position, inputs, false, report);
-        let [was, is] = [before, &after].map(|lent| *lent.channel().nx());
+    fn nx(&mut self, before: &Lent, after: &Lent, codes: [u8; 13]) {
+        let [was, is] = [before, after].map(|lent| *lent.channel().nx());
         let usable = !codes.contains(&1);
         let on = before.channel().data().has(Paper, Function::Nx);
         let any = before.state()[image::word::NX] > 1;
@@ -652,6 +677,47 @@ impl ReachedCalls {
         let full = was.run == nx::LONGEST;
         self.event(Event::NxLongestRun, usable && full && is.run == was.run);
         self.event(Event::NxRunBeyond, usable && was.run > nx::LONGEST);
+    }
+
+    /// What safe direction comes to.
+    fn directions(&mut self, before: &Lent, after: &Lent, codes: [u8; 13]) {
+        let usable = !codes.contains(&1);
+        let data = before.channel().data();
+        let on = data.has(Paper, Function::SafeDirection);
+        self.event(
+            Event::DirectionBelow72,
+            usable && on && data.head() < HEADS[3],
+        );
+        let delay = i64::from(data.get(number::DIRECTION_DELAY));
+        let tolerance = i64::from(data.get(number::DIRECTION_TOLERANCE));
+        let [was, is] = [before, after].map(|lent| *lent.channel().directions());
+        let both = [
+            (was.positive, is.positive, 1, image::word::POSITIVE_WATCH),
+            (was.negative, is.negative, -1, image::word::NEGATIVE_WATCH),
+        ];
+        for (was, is, sign, word) in both {
+            let watch = was.watch.is_some();
+            let words = |lent: &Lent| (lent.state()[word], lent.state()[word + 1]);
+            let any_word = words(before).0 > 1;
+            self.event(Event::WatchAnyWord, usable && on && any_word);
+            let short = watch && is.watch.is_some() && is.run <= delay;
+            self.event(Event::WatchOfShortRun, usable && on && short);
+            self.event(Event::WatchWithoutFunction, usable && watch && !on);
+            let behind = was.watch.zip(after.channel().previous());
+            let over = behind.is_some_and(|(extreme, position)| {
+                sign * (i64::from(extreme) - i64::from(position)) > tolerance
+            });
+            self.event(Event::OverstepWithoutFunction, usable && !on && over);
+            self.event(Event::WatchUnusable, !usable && watch);
+            let left = words(before) == words(after);
+            self.event(Event::WatchWordLeft, left && any_word);
+            let behind_none = !watch && words(before).1 != 0;
+            self.event(Event::ExtremeLeft, left && behind_none);
+            let full = was.run == direction::LONGEST && is.run == was.run;
+            self.event(Event::DirectionLongestRun, usable && on && full);
+            let beyond = was.run > direction::LONGEST;
+            self.event(Event::DirectionRunBeyond, usable && on && beyond);
+        }
     }
 
     fn read(&mut self, read: Result<usize, Refusal>, past: bool) {
@@ -739,6 +805,16 @@ impl ReachedCalls {
         self.event(Event::SgBefore5, before(3, 5));
         self.event(Event::SgBeforeSe, before(3, 4));
         self.event(Event::SeBeforeSg, before(4, 3));
+        let rank_4 = [2, 9, 13];
+        self.event(Event::DirectionBeforeSe, before(14, 4));
+        let before_4 = rank_4.iter().any(|&code| before(14, code));
+        self.event(Event::DirectionBeforeRank4, before_4);
+        let behind_4 = rank_4.iter().any(|&code| before(code, 14));
+        self.event(Event::DirectionBehindRank4, behind_4);
+        let rankless = (10..=12).any(|code| before(14, code));
+        self.event(Event::DirectionBeforeRankless, rankless);
+        let last = codes.iter().rfind(|&&code| code != 0) == Some(&14);
+        self.event(Event::DirectionLast, last && codes[1] != 0);
         self.event(Event::Rank4, codes.windows(2).any(of_rank_4));
         self.event(Event::ManyCodes, codes[7] != 0);
     }
@@ -777,6 +853,9 @@ impl ReachedCalls {
             past_a.any_content || past_b.any_content,
         );
         self.event(Event::LogTurned, past_a.was_b);
+        let watches = [image::word::POSITIVE_WATCH, image::word::NEGATIVE_WATCH];
+        let any_word = |of: usize| watches.iter().any(|&word| before.0[of].state()[word] > 1);
+        self.event(Event::WatchWordInLog, any_word(*a) || any_word(*b));
         self.event(Event::EmptyLog, words.is_empty());
         self.event(Event::NoRecord, cycles == 0 && !words.is_empty());
         self.event(Event::LongestLog, words.len() == log::LONGEST);

@@ -45,11 +45,11 @@ fn damage_head(random: &mut Xorshift, parts: &mut Parts) {
         6 => vec![right, right],
         7 => vec![other],
         8 => vec![words::head(
-            random.pick(&[0, 50, 52, 59, 60, 65, 66, 68, 70, 72, 255]),
+            random.pick(&[0, 50, 52, 59, 60, 65, 66, 68, 70, 71, 73, 255]),
         )],
         _ => {
             // A list of as many data as another head says.
-            let count = random.pick(&[50, 52, 60, 66, 68, 70]);
+            let count = random.pick(&[50, 52, 60, 66, 68, 70, 71, 73]);
             let last = list.last().cloned().unwrap_or_default();
             list.truncate(count);
             for number in list.len()..count {
@@ -65,7 +65,7 @@ fn damage_head(random: &mut Xorshift, parts: &mut Parts) {
 }
 
 /// The rows of the machine data, first and last datum of each.
-const ROWS: [(i64, i64); 20] = [
+const ROWS: [(i64, i64); 23] = [
     (0, 0),
     (1, 1),
     (2, 2),
@@ -86,13 +86,18 @@ const ROWS: [(i64, i64); 20] = [
     (59, 66),
     (67, 67),
     (68, 68),
+    (69, 69),
+    (70, 70),
+    (71, 71),
 ];
 
 /// The number of a datum: its row first, so that each row has its turn.
 fn datum_number(random: &mut Xorshift) -> usize {
     let (first, last) = random.pick(&ROWS);
     match random.below(4) {
-        0 => random.pick(&[0, 1, 49, 50, 50, 51, 65, 66, 66, 67, 68, 68]),
+        0 => random.pick(&[
+            0, 1, 1, 49, 50, 50, 51, 65, 66, 66, 67, 68, 68, 69, 70, 71, 71,
+        ]),
         _ => random.between(first, last) as usize,
     }
 }
@@ -100,10 +105,10 @@ fn datum_number(random: &mut Xorshift) -> usize {
 fn damage_datum(random: &mut Xorshift, parts: &mut Parts) {
     let number = datum_number(random);
     let list = either_list(random, parts);
+    let (low, high) = range(list.len(), number);
     let Some(datum) = list.get_mut(number).filter(|datum| !datum.is_empty()) else {
         return;
     };
-    let (low, high) = range(number);
     match random.below(29) {
         0 => datum[0] ^= 1 << random.between(0, 31),
         1 => datum[0] ^= random.pick(&[1 << 2, 1 << 15, 1 << 16, 1 << 24, 1 << 27, 1 << 28]),

@@ -2,6 +2,7 @@
 
 use super::Xorshift;
 use crate::channel::{bit, Channel};
+use crate::direction::{Directions, DIRECTION_BITS};
 use crate::gear::GEAR_BITS;
 use crate::machine_data::{number, Function, MachineData, HEADS};
 use crate::selection::Selection;
@@ -18,8 +19,10 @@ pub fn log(
     data_b: &[i32],
     cycles: Option<usize>,
 ) -> Vec<Vec<u32>> {
-    let longest = data_a.get(number::NX_FILTER) == Some(&1_000);
-    let rests = cycles.is_none() && longest && random.percent(4);
+    let longest = [number::NX_FILTER, number::DIRECTION_DELAY]
+        .iter()
+        .any(|&datum| data_a.get(datum) == Some(&1_000));
+    let rests = cycles.is_none() && longest && random.percent(8);
     let cycles = cycles.unwrap_or_else(|| match rests {
         true => random.between(1_000, 1_100) as usize,
         false => any_cycles(random),
@@ -31,11 +34,20 @@ pub fn log(
     let fresh = |data| Channel::fresh(MachineData::of(data));
     let mut driver = Driver::new(random, fresh(data_a), fresh(data_b));
     if rests {
-        // Long enough for the longest filter of n<nx.
-        (driver.habits.moves, driver.habits.idles) = (0, 0);
+        // Long enough for the longest filter of n<nx, and for the longest delay of safe direction.
+        driver.habits = Habits {
+            moves: 0,
+            idles: 0,
+            travels: 0,
+            turns: 0,
+            ..driver.habits
+        };
     }
     let mut log = Vec::new();
-    for _ in 0..cycles {
+    for cycle in 0..cycles {
+        if rests && cycle == 1_010 {
+            driver.habits.travels = 60;
+        }
         push_remarks(driver.random, remarks, &mut log);
         log.push(driver.record().to_vec());
     }
@@ -81,6 +93,10 @@ struct Habits {
     bounds: usize,
     /// Percent of cycles in which the axis idles about nx.
     idles: usize,
+    /// Percent of cycles in which the axis goes about what a watch of safe direction lets pass.
+    travels: usize,
+    /// Percent of cycles in which the inputs of safe direction change.
+    turns: usize,
     /// Percent of cycles in which the inputs change.
     changes: usize,
     /// Percent of cycles with an external stop, if the inputs change.
@@ -112,6 +128,8 @@ impl<'a> Driver<'a> {
             moves: random.pick(&[20, 40, 60]),
             bounds: random.pick(&[20, 50, 80]),
             idles: random.pick(&[0, 0, 0, 0, 20, 60]),
+            travels: random.pick(&[0, 20, 40, 70]),
+            turns: random.pick(&[0, 5, 10, 30]),
             changes: random.pick(&[10, 25, 50]),
             stops: random.pick(&[0, 10, 30]),
             parts: if calm { 0 } else { random.pick(&[2, 6, 20]) },
@@ -129,7 +147,7 @@ impl<'a> Driver<'a> {
             inputs_b: 0,
             differing: 0,
         };
-        driver.inputs = driver.selection() | driver.gear() | NO_STOP;
+        driver.inputs = driver.selection() | driver.gear() | driver.ways() | NO_STOP;
         driver
     }
 
@@ -189,6 +207,9 @@ impl<'a> Driver<'a> {
         }
         if self.random.percent(self.habits.idles) {
             return self.idle().clamp(-100_000_000, 100_000_000) as i32;
+        }
+        if self.watches() && self.random.percent(self.habits.travels) {
+            return self.travel().clamp(-100_000_000, 100_000_000) as i32;
         }
         if !self.random.percent(self.habits.moves) {
             return self.position;
@@ -278,6 +299,41 @@ impl<'a> Driver<'a> {
         here + side * (bound + beside).max(0)
     }
 
+    /// Whether a channel has safe direction on.
+    fn watches(&self) -> bool {
+        let on = |channel: &Channel| channel.data().has(Paper, Function::SafeDirection);
+        on(&self.a) || on(&self.b)
+    }
+
+    /// A position at, or one beside, the farthest that a watch lets pass; or farther in the free way.
+    fn travel(&mut self) -> i64 {
+        let channel = self.either();
+        let Directions { positive, negative } = *channel.directions();
+        let (watch, sign) = self
+            .random
+            .pick(&[(positive.watch, 1), (negative.watch, -1)]);
+        let here = i64::from(channel.previous().unwrap_or(self.position));
+        let Some(extreme) = watch else {
+            return here + self.random.pick(&[-7, -1, 1, 7]);
+        };
+        let tolerance = i64::from(channel.data().get(number::DIRECTION_TOLERANCE));
+        let beside = self.random.pick(&[-1, 0, 0, 1, 1]);
+        match self.random.below(3) {
+            0 => here + sign * self.random.pick(&[1, 3, 50]),
+            _ => i64::from(extreme) - sign * (tolerance + beside),
+        }
+    }
+
+    /// The bits of the ways that are free, 0 where a list has no safe direction.
+    fn ways(&mut self) -> u32 {
+        let ways = self.random.pick(&[0, 0, 1, 1, 2, 2, 3]) << 13;
+        if self.watches() {
+            ways
+        } else {
+            0
+        }
+    }
+
     /// The longest step that some SG lets pass.
     fn sg_step(&mut self, channel: &Channel) -> i64 {
         let (sg, override_number) = match channel.selections().effective {
@@ -336,6 +392,9 @@ impl<'a> Driver<'a> {
                 self.inputs &= !NO_STOP;
             }
         }
+        if self.random.percent(self.habits.turns) {
+            self.inputs = self.inputs & !DIRECTION_BITS | self.ways();
+        }
         self.meet_f();
         self.inputs
     }
@@ -391,6 +450,8 @@ impl<'a> Driver<'a> {
                 1 << 8,
                 1 << 10,
                 1 << 12,
+                1 << 13,
+                1 << 14,
                 1 << 18,
                 1 << 21,
                 1 << 28,
@@ -416,14 +477,19 @@ impl<'a> Driver<'a> {
         ])
     }
 
-    /// One bit that has no meaning.
+    /// One bit that has no meaning, now and then beside the bits of both directions.
     fn odd_bit(&mut self) -> u32 {
+        let ways = if self.random.percent(20) {
+            self.ways()
+        } else {
+            0
+        };
         loop {
             let number = self
                 .random
-                .pick(&[2, 5, 7, 11, 13, 17, 22, 27, 6, 8, 9, 10, 14, 16, 23, 25]);
+                .pick(&[2, 5, 7, 11, 13, 15, 17, 22, 27, 6, 8, 9, 10, 14, 16, 23, 25]);
             if !bit(crate::channel::INPUT_BITS, number) {
-                return 1 << number;
+                return ways | 1 << number;
             }
         }
     }

@@ -166,7 +166,7 @@ fn data(random: &mut Xorshift) -> Vec<i32> {
     for (number, datum) in data.iter_mut().enumerate() {
         *datum = match number {
             0 => random.pick(&[12, 12, 12, 1, 2, 7, 11, 13, 25, 10]),
-            1 => functions(random),
+            1 => functions(random) | direction(random, head),
             2 => random.pick(&[0, 1, 5, 10, 10, 30, 100, 100_000]),
             3..=6 => random.pick(&[
                 1, 50, 100, 500, 1000, 1999, 2000, 2000, 3000, 5000, 1_000_000,
@@ -187,6 +187,9 @@ fn data(random: &mut Xorshift) -> Vec<i32> {
             35..=50 => random.pick(&[1, 10, 50, 50, 99, 100, 100, 100]),
             67 => random.pick(&[0, 0, 1, 5, 50, 500, 500, 1_000_000]),
             68 => random.pick(&[0, 0, 1, 1, 2, 3, 5, 1000]),
+            69 => random.pick(&[0, 0, 1, 5, 10, 10, 30, 100, 100_000]),
+            70 => random.pick(&[0, 0, 0, 1, 1, 2, 3, 5, 1000]),
+            71 => random.between(1, 5) as i32,
             _ => random.pick(ratios),
         };
     }
@@ -196,7 +199,7 @@ fn data(random: &mut Xorshift) -> Vec<i32> {
         _ => (),
     }
     for (datum, number) in data.iter_mut().zip(0..) {
-        let (low, high) = range(number);
+        let (low, high) = range(head, number);
         *datum = (*datum).clamp(low, high);
     }
     order_se(&mut data);
@@ -209,10 +212,17 @@ fn functions(random: &mut Xorshift) -> i32 {
     some ^ random.pick(&[0, 0, 0, 0, 0, 1, 2, 4, 8, 16])
 }
 
+/// Safe direction, mostly on where a list can have it.
+fn direction(random: &mut Xorshift, head: usize) -> i32 {
+    let on = head == HEADS[3] && random.percent(75);
+    i32::from(on) << 5
+}
+
 /// Each datum at one end of its range.
 fn at_range_ends(random: &mut Xorshift, data: &mut [i32]) {
+    let head = data.len();
     for (number, datum) in data.iter_mut().enumerate() {
-        let (low, high) = range(number);
+        let (low, high) = range(head, number);
         *datum = match number {
             11 | 13 => low,
             12 | 14 => high,
@@ -255,8 +265,9 @@ fn other_data(random: &mut Xorshift, data_a: &[i32]) -> Vec<i32> {
     }
     if random.percent(20) {
         let at = HEADS.iter().position(|&head| head == data_a.len());
-        let head = HEADS[(at.unwrap_or(0) + random.pick(&[1, 2])) % HEADS.len()];
+        let head = HEADS[(at.unwrap_or(0) + random.pick(&[1, 2, 3])) % HEADS.len()];
         data_b.resize(head, random.pick(&[1, 1, 2, 3]));
+        data_b[1] = data_b[1].min(range(head, 1).1);
         return data_b;
     }
     for _ in 0..random.pick(&[1, 1, 1, 2, 4]) {
@@ -265,7 +276,7 @@ fn other_data(random: &mut Xorshift, data_a: &[i32]) -> Vec<i32> {
             1 => random.below(12),
             _ => random.pick(&[0, 1, 50, data_b.len() - 2, data_b.len() - 1]),
         };
-        let (low, high) = range(number);
+        let (low, high) = range(data_b.len(), number);
         let datum = data_b[number];
         // One or two beside it, in the upper half alone, or of the other sign.
         let by = random.pick(&[-2, -1, 1, 1, 2, 1 << 16, -(1 << 16), -2 * datum]);

@@ -3,6 +3,7 @@
 use super::layers::Layer;
 use crate::causes;
 use crate::channel::{Channel, Cycle};
+use crate::direction::DIRECTION_BITS;
 use crate::gear::{Ratio, GEAR_BITS};
 use crate::log::{self, Side};
 use crate::machine_data::{number, Function, HEADS};
@@ -84,6 +85,7 @@ named! {
         KWraps: "k follows 50 by 0",
         KWrapsAt66: "k follows 66 by 0",
         KWrapsAt68: "k follows 68 by 0",
+        KWrapsAt71: "k follows 71 by 0",
         Ratio: "a ratio other than 1 to 1",
         RatioChanges: "another ratio than in the cycle before",
         SgByRatio: "an SG is overstepped, or not, by the ratio",
@@ -91,6 +93,23 @@ named! {
         ShutdownByRatio: "B becomes A, or not, by the ratio",
         HeadsDiffer: "cause 12 by the head alone",
         GearAt51: "unusable by a gear bit with a list headed 51",
+        DirectionWaits: "a direction's run, its delay not over",
+        WatchBegins: "a watch begins after its delay",
+        WatchBeginsAtOnce: "a watch begins at once, delay 0",
+        WatchBeginsLast: "a watch begins after a delay of 1,000",
+        WatchEnds: "a watch ends",
+        RunEnds: "a direction's run ends without a watch",
+        BothWatched: "both directions have a watch",
+        ExtremeMoves: "an extreme takes in a farther position",
+        AtTolerance: "a position at the tolerance of safe direction",
+        PositiveOverstepped: "the positive direction is overstepped",
+        NegativeOverstepped: "the negative direction is overstepped",
+        BothOverstepped: "both directions are overstepped",
+        Cause14Alone: "cause 14 alone leads to a stop",
+        ClearsWithWatch: "a cycle clears with a watch",
+        UnusableWatch: "unusable with a watch",
+        UnusableDirectionRun: "unusable with a direction's run and no watch",
+        UnusableByDirection: "unusable by bit 13 or 14 with safe direction off",
     }
 }
 
@@ -102,6 +121,8 @@ named! {
         MinusZero: "with minus zero",
         Gears: "with a list headed 67",
         NxData: "with a list headed 69",
+        DirectionData: "with a list headed 72",
+        DirectionOff: "with a list headed 72 and safe direction off",
         HeadsDiffer: "with unlike heads",
         ListsDiffer: "with unlike lists",
         Remarks: "with remarks",
@@ -129,7 +150,7 @@ pub struct Reached {
     device_ranks: [u64; 8],
     /// Channel words that show a cam signal, SN1+ first.
     cams: [u64; 8],
-    causes: [u64; 14],
+    causes: [u64; 15],
     events: Vec<u64>,
 }
 
@@ -153,7 +174,7 @@ impl Reached {
             ranks: [0; 6],
             device_ranks: [0; 8],
             cams: [0; 8],
-            causes: [0; 14],
+            causes: [0; 15],
             events: vec![0; Event::NAMES.len()],
         }
     }
@@ -210,6 +231,12 @@ impl Reached {
         self.lists(lists);
         self.kit(Kit::Gears, data_a.head() == HEADS[1]);
         self.kit(Kit::NxData, data_a.head() == HEADS[2]);
+        let (longest, on) = (
+            data_a.head() == HEADS[3],
+            data_a.has(Paper, Function::SafeDirection),
+        );
+        self.kit(Kit::DirectionData, longest);
+        self.kit(Kit::DirectionOff, longest && !on);
         self.kit(Kit::HeadsDiffer, data_a.head() != data_b.head());
         self.kit(Kit::ListsDiffer, data_a != data_b);
         self.kit(Kit::Remarks, log.len() as u64 > 7 * cycles);
@@ -270,7 +297,7 @@ impl Reached {
     ) {
         self.ranks[after.stop().rank.number() as usize] += 1;
         for code in cycle.causes.codes() {
-            self.causes[usize::from(code).min(13)] += 1;
+            self.causes[usize::from(code).min(14)] += 1;
         }
         for (bit, cam) in (8..).zip(&mut self.cams) {
             *cam += u64::from(cycle.word >> bit & 1);
@@ -279,10 +306,14 @@ impl Reached {
         self.event(Event::KWraps, wraps && before.k() == 50);
         self.event(Event::KWrapsAt66, wraps && before.k() == 66);
         self.event(Event::KWrapsAt68, wraps && before.k() == 68);
+        self.event(Event::KWrapsAt71, wraps && before.k() == 71);
         if cycle.causes.stands(1) {
             self.unusable(before, other_unusable);
             let gear = after.data().head() == HEADS[0] && side.inputs & GEAR_BITS != 0;
             self.event(Event::GearAt51, gear);
+            let off = !after.data().has(Paper, Function::SafeDirection);
+            let ways = side.inputs & DIRECTION_BITS != 0;
+            self.event(Event::UnusableByDirection, off && ways);
             return;
         }
         self.selection(before, after);
@@ -293,6 +324,42 @@ impl Reached {
         self.event(Event::CamFalls, was & !is != 0);
         self.event(Event::NxShows, cycle.word >> 21 & 1 == 1);
         self.nx(before, after);
+        self.directions(before, after, side);
+    }
+
+    /// What safe direction comes to in a usable cycle.
+    fn directions(&mut self, before: &Channel, after: &Channel, side: Side) {
+        let (was, is) = (before.directions(), after.directions());
+        let [delay, tolerance] = [number::DIRECTION_DELAY, number::DIRECTION_TOLERANCE]
+            .map(|datum| i64::from(after.data().get(datum)));
+        let mut over = [false; 2];
+        let both = [
+            (was.positive, is.positive, 1),
+            (was.negative, is.negative, -1),
+        ];
+        for (over, (was, is, sign)) in over.iter_mut().zip(both) {
+            let begins = was.watch.is_none() && is.watch.is_some();
+            self.event(Event::DirectionWaits, is.run > 0 && is.watch.is_none());
+            self.event(Event::WatchBegins, begins && delay > 0);
+            self.event(Event::WatchBeginsAtOnce, begins && delay == 0);
+            self.event(Event::WatchBeginsLast, begins && delay == 1_000);
+            self.event(Event::WatchEnds, was.watch.is_some() && is.watch.is_none());
+            let run_ends = was.run > 0 && was.watch.is_none() && is.run == 0;
+            self.event(Event::RunEnds, run_ends);
+            let Some(extreme) = is.watch else {
+                continue;
+            };
+            let moves = was.watch.is_some_and(|was| was != extreme);
+            self.event(Event::ExtremeMoves, moves);
+            let behind = sign * (i64::from(extreme) - i64::from(side.position));
+            self.event(Event::AtTolerance, behind == tolerance && tolerance > 0);
+            *over = behind > tolerance;
+        }
+        let both = is.positive.watch.is_some() && is.negative.watch.is_some();
+        self.event(Event::BothWatched, both);
+        self.event(Event::PositiveOverstepped, over == [true, false]);
+        self.event(Event::NegativeOverstepped, over == [false, true]);
+        self.event(Event::BothOverstepped, over == [true, true]);
     }
 
     /// What n<nx comes to in a usable cycle.
@@ -372,6 +439,12 @@ impl Reached {
         let nx = before.nx();
         self.event(Event::UnusableNx, nx.value);
         self.event(Event::UnusableNxRun, !nx.value && nx.run > 0);
+        let directions = before.directions();
+        for watched in [directions.positive, directions.negative] {
+            let watch = watched.watch.is_some();
+            self.event(Event::UnusableWatch, watch);
+            self.event(Event::UnusableDirectionRun, !watch && watched.run > 0);
+        }
     }
 
     fn selection(&mut self, before: &Channel, after: &Channel) {
@@ -405,6 +478,7 @@ impl Reached {
         if is.rank > was.rank && entered > was.rank {
             self.event(ENTERED[entered.number() as usize - 1], true);
             self.event(Event::StrongerEntered, was.rank != Rank::None);
+            self.event(Event::Cause14Alone, cycle.causes.codes().eq([14]));
             self.event(Event::HeldOnEntry, is.held.is_some());
         }
         if is.held.is_some() && (was.held.is_none() || is.rank > was.rank) {
@@ -452,6 +526,12 @@ impl Reached {
             Event::ClearsWithCause13,
             acknowledged && !causes.any_fresh() && causes.stands(13),
         );
+        let is = after.directions();
+        let watched = is.positive.watch.is_some() || is.negative.watch.is_some();
+        self.event(
+            Event::ClearsWithWatch,
+            acknowledged && !causes.any_fresh() && watched,
+        );
         self.event(Event::HeldUp, acknowledged && causes.any_fresh());
         self.event(Event::InputsDiffer, after.run() > 0 && !causes.stands(11));
     }
@@ -493,8 +573,8 @@ pub(super) const RANKS: [&str; 6] = ["none", "E", "D", "C", "B", "A"];
 const CAMS: [&str; 8] = [
     "SN1+", "SN1-", "SN2+", "SN2-", "SN3+", "SN3-", "SN4+", "SN4-",
 ];
-pub(super) const CODES: [&str; 13] = [
-    "1", "2", "3", "4", "5", "6", "7", "8", "9", "10", "11", "12", "13",
+pub(super) const CODES: [&str; 14] = [
+    "1", "2", "3", "4", "5", "6", "7", "8", "9", "10", "11", "12", "13", "14",
 ];
 
 /// The entry of a stop, by its rank's number less one.

@@ -447,7 +447,7 @@ fn cycle_answer(text: &str) -> Result<Vec<u32>, String> {
         ["no", "cause"] => (),
         ["cause" | "causes", codes @ ..] if !codes.is_empty() => {
             for code in codes {
-                answer.push(integer(code, 1, 13, "a cause code")? as u32);
+                answer.push(integer(code, 1, 14, "a cause code")? as u32);
             }
         }
         _ => return Err(wrong()),

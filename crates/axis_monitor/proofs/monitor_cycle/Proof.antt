@@ -60,7 +60,7 @@ returns c =
     let g = given (told at) in
     let left = simp (at .before .state-from .ensures, given-is (told at)) at (c .usable-cycle .ensures) in
     cycled (now (start .values)) (now (start .state)) g (count .ensures .0) (count .ensures .1)
-    (left ∙ usable-way (list at) s g (by-test at (c .before .before .before .if1 .taken)))
+    (left ∙ usable-way (list at) s g (now (start .state)) (by-test at (c .before .before .before .if1 .taken)))
 
 returns-2 : tie.Need-returns-2
 returns-2 c =
@@ -71,7 +71,7 @@ returns-2 c =
     let g = given (told at) in
     let left = simp (at .before .state-from .ensures) at (c .unusable-cycle .ensures) in
     cycled (now (start .values)) (now (start .state)) g (count .ensures .0) (count .ensures .1)
-    (left ∙ unusable-way (list at) s g (by-test at (c .before .before .before .if1 .left)))
+    (left ∙ unusable-way (list at) s g (now (start .state)) (by-test at (c .before .before .before .if1 .left)))
 
 pub monitor-cycle-spec : {M : Type 1} → statement M
 monitor-cycle-spec =

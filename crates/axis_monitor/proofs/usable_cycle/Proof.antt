@@ -1,18 +1,27 @@
 -- `axis_monitor::usable_cycle` meets its contract. Assumes nothing.
-use mathlib.Core.Path.{ap, _∙_}
+use mathlib.Core.Path.{_≡_, ap, _∙_}
 use denote.Ref.{now}
 use borrow.Author.Needs.{needs}
-use Rattle.machine_data.specs.Data.{lent}
+use Rattle.machine_data.specs.Data.{lent, functionOf}
 use Rattle.codes.specs.Codes.{causesIf}
 use Rattle.judge.specs.declared.Findings.{Findings}
+use Rattle.judge.specs.Causes.{findingsBy, findingsOf}
+use Rattle.judge.proofs.Parts.{in-parts}
+use Rattle.advance.specs.declared.Advanced.{Advanced}
 use Rattle.advance.specs.After.{advancedBy}
 use Rattle.axis_monitor.specs.Left.{usableLeaves}
-use Rattle.axis_monitor.proofs.Channels.{way-left}
+use Rattle.axis_monitor.proofs.Channels.{way-left, guarded-tail}
 use Rattle.axis_monitor.proofs.usable_cycle.Statement.{statement}
 use Rattle.axis_monitor.proofs.usable_cycle.Tie as tie
 
-judge-requires : tie.Need-judge-requires
-judge-requires c κs = search needs
+guard-requires : tie.Need-guard-requires
+guard-requires c κs = search needs
+
+begin-requires : tie.Need-begin-requires
+begin-requires c κs = search needs
+
+finish-requires : tie.Need-finish-requires
+finish-requires c κs = search needs
 
 found-requires : tie.Need-found-requires
 found-requires c κs = search needs
@@ -20,19 +29,32 @@ found-requires c κs = search needs
 list-causes-requires : tie.Need-list-causes-requires
 list-causes-requires c κs = search needs
 
-leave-requires : tie.Need-leave-requires
-leave-requires c κs = search needs
+put-front-requires : tie.Need-put-front-requires
+put-front-requires c κs = search needs
 
 returns : tie.Need-returns
 unfolding usableLeaves
 returns c =
-    let a = c .before .before .before .before .before .before .before .before .args in
-    let m = lent (now (a .values)) (a .count) in
-    let judged = c .before .before .before .before .before .before .before .judge .ensures in
-    way-left (a .count)
-    (c .before .before .before .before .found .ensures ∙ ap (advancedBy m (a .before) (a .given)) judged)
-    (c .before .before .list-causes .ensures ∙ ap (λ (f : Findings). causesIf (f .summary .any) (f .rows)) judged)
-    (c .leave .ensures .0) (c .leave .ensures .1)
+    let a = c .before .before .before .before .before .before .before .before .before .before .before .before .args in
+    let d = now (a .values) in
+    let m = lent d (a .count) in
+    let w = now (a .state) in
+    let guard = c .before .before .before .before .before .before .before .before .before .before .guard .ensures in
+    let judged : c .before .before .before .before .before .before .before .before .finish .result ≡ findingsOf m (a .before) (a .given) = c .before .before .before .before .before .before .before .before .finish .ensures ∙ (λ i. findingsBy m (a .before) (a .given) (c .before .before .before .before .before .before .before .before .before .begin .ensures i) (guard .0 i)) ∙ in-parts m (a .before) (a .given) in
+    let found : c .before .before .before .before .before .found .result ≡ advancedBy m (a .before) (a .given) (findingsOf m (a .before) (a .given)) = c .before .before .before .before .before .found .ensures ∙ ap (advancedBy m (a .before) (a .given)) judged in
+    let directions = ap (λ (x : Advanced). x .state .kept .directions) found in
+    way-left (functionOf d 5) (a .count) w found
+    (c .before .before .before .list-causes .ensures ∙ ap (λ (f : Findings). causesIf (f .summary .any) (f .rows)) judged)
+    (guard .1) (guarded-tail d (a .given .reading) (a .before .kept .directions) w directions) (c .put-front .ensures)
 
 pub usable-cycle-spec : {M : Type 1} → statement M
-usable-cycle-spec = tie.close (tie.spec judge-requires found-requires list-causes-requires leave-requires returns)
+usable-cycle-spec =
+    tie.close
+    (tie.spec
+    guard-requires
+    begin-requires
+    finish-requires
+    found-requires
+    list-causes-requires
+    put-front-requires
+    returns)

@@ -18,8 +18,8 @@ resolve-requires c κs = search needs
 enum-known-z : tie.Need-enum-known-z
 enum-known-z c = search needs
 
-in-range-requires : tie.Need-in-range-requires
-in-range-requires c κs = search needs
+allowed-requires : tie.Need-allowed-requires
+allowed-requires c κs = search needs
 
 enum-known-why : tie.Need-enum-known-why
 enum-known-why c = search needs
@@ -29,19 +29,19 @@ enum-known-place c = search needs
 
 returns : tie.Need-returns
 returns c = let s = c .before .before .before .before .before .before .before .before .before .before .before in
-    by-range (now (s .args .words)) (s .args .k) (s .args .at) (sym (c .before .before .before .before .before .before .before .before .before .datum-at .ensures) ∙ c .before .before .before .before .before .before .before .d .given .1) (sym (c .before .before .before .before .before .resolve .ensures) ∙ c .before .before .before .z .given .1) (search needs) (sym (c .before .in-range .ensures) ∙ c .if1 .taken)
+    by-range (s .args .head) (now (s .args .words)) (s .args .k) (s .args .at) (sym (c .before .before .before .before .before .before .before .before .before .datum-at .ensures) ∙ c .before .before .before .before .before .before .before .d .given .1) (sym (c .before .before .before .before .before .resolve .ensures) ∙ c .before .before .before .z .given .1) (search needs) (sym (c .before .allowed .ensures) ∙ c .if1 .taken)
 
 returns-2 : tie.Need-returns-2
 returns-2 c = let s = c .before .before .before .before .before .before .before .before .before .before .before in
-    by-range (now (s .args .words)) (s .args .k) (s .args .at) (sym (c .before .before .before .before .before .before .before .before .before .datum-at .ensures) ∙ c .before .before .before .before .before .before .before .d .given .1) (sym (c .before .before .before .before .before .resolve .ensures) ∙ c .before .before .before .z .given .1) (search needs) (sym (c .before .in-range .ensures) ∙ c .if1 .left)
+    by-range (s .args .head) (now (s .args .words)) (s .args .k) (s .args .at) (sym (c .before .before .before .before .before .before .before .before .before .datum-at .ensures) ∙ c .before .before .before .before .before .before .before .d .given .1) (sym (c .before .before .before .before .before .resolve .ensures) ∙ c .before .before .before .z .given .1) (search needs) (sym (c .before .allowed .ensures) ∙ c .if1 .left)
 
 returns-3 : tie.Need-returns-3
 returns-3 c = let s = c .before .before .before .before .before .before .before .before .before in
-    by-units (now (s .args .words)) (s .args .k) (s .args .at) (sym (c .before .before .before .before .before .before .before .datum-at .ensures) ∙ c .before .before .before .before .before .d .given .1) (sym (c .before .before .before .resolve .ensures) ∙ c .before .why .given .1)
+    by-units (s .args .head) (now (s .args .words)) (s .args .k) (s .args .at) (sym (c .before .before .before .before .before .before .before .datum-at .ensures) ∙ c .before .before .before .before .before .d .given .1) (sym (c .before .before .before .resolve .ensures) ∙ c .before .why .given .1)
 
 returns-4 : tie.Need-returns-4
 returns-4 c = let s = c .before .before .before .before .before in
-    value-bad (now (s .args .words)) (s .args .k) (s .args .at) (sym (c .before .before .before .datum-at .ensures) ∙ c .before .place .given .1)
+    value-bad (s .args .head) (now (s .args .words)) (s .args .k) (s .args .at) (sym (c .before .before .before .datum-at .ensures) ∙ c .before .place .given .1)
 
 pub value-at-spec : {M : Type 1} → statement M
 value-at-spec =
@@ -51,7 +51,7 @@ value-at-spec =
     enum-known-d
     resolve-requires
     enum-known-z
-    in-range-requires
+    allowed-requires
     enum-known-why
     enum-known-place
     returns

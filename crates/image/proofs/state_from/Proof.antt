@@ -68,6 +68,30 @@ element-copy-out-yes-3 c = search needs
 yes-requires-3 : tie.Need-yes-requires-3
 yes-requires-3 c κs = search needs
 
+element-copy-out-t53 : tie.Need-element-copy-out-t53
+element-copy-out-t53 c = search needs
+
+element-copy-out-watch-from : tie.Need-element-copy-out-watch-from
+element-copy-out-watch-from c = search needs
+
+element-copy-out-watch-from-2 : tie.Need-element-copy-out-watch-from-2
+element-copy-out-watch-from-2 c = search needs
+
+watch-from-requires : tie.Need-watch-from-requires
+watch-from-requires c κs = search needs
+
+element-copy-out-t64 : tie.Need-element-copy-out-t64
+element-copy-out-t64 c = search needs
+
+element-copy-out-watch-from-3 : tie.Need-element-copy-out-watch-from-3
+element-copy-out-watch-from-3 c = search needs
+
+element-copy-out-watch-from-4 : tie.Need-element-copy-out-watch-from-4
+element-copy-out-watch-from-4 c = search needs
+
+watch-from-requires-2 : tie.Need-watch-from-requires-2
+watch-from-requires-2 c κs = search needs
+
 element-copy-out-stop-from : tie.Need-element-copy-out-stop-from
 element-copy-out-stop-from c = search needs
 
@@ -91,7 +115,7 @@ previous-from-requires c κs = search needs
 
 returns : tie.Need-returns
 unfolding stateFrom
-returns c = let w = now (c .before .before .before .before .before .before .before .before .before .before .before .before .before .before .before .before .before .before .before .before .before .before .before .before .before .args .words) in let signed = c .before .before .before .before .before .before .before .before .before .before .before .before .before .before .before .signed in let f : SFits w32 (signed .result) = search needs in λ i.
+returns c = let w = now (c .before .before .before .before .before .before .before .before .before .before .before .before .before .before .before .before .before .before .before .before .before .before .before .before .before .before .before .before .before .before .before .before .before .args .words) in let signed = c .before .before .before .before .before .before .before .before .before .before .before .before .before .before .before .before .before .before .before .before .before .before .before .signed in let f : SFits w32 (signed .result) = search needs in λ i.
     record {
       k = getD w 1 0 % 256;
       kept =
@@ -99,14 +123,19 @@ returns c = let w = now (c .before .before .before .before .before .before .befo
             cams = getD w 16 0;
             choice =
                 record {
-                  chosen = c .before .before .before .before .before .before .before .before .before .before .before .before .before .before .before .before .before .before .before .before .before .yes .ensures i;
-                  effective = c .before .before .before .before .before .before .before .before .before .before .before .before .before .before .before .before .before .selection-from .ensures i;
+                  chosen = c .before .before .before .before .before .before .before .before .before .before .before .before .before .before .before .before .before .before .before .before .before .before .before .before .before .before .before .before .before .yes .ensures i;
+                  effective = c .before .before .before .before .before .before .before .before .before .before .before .before .before .before .before .before .before .before .before .before .before .before .before .before .before .selection-from .ensures i;
                   reference = (toZ-ofZ f ∙ signed .ensures) i;
                   left = getD w 9 0;
                 };
             differing = getD w 10 0;
-            fault = record { on = c .before .before .before .before .before .before .before .before .before .before .before .yes2 .ensures i; left = getD w 12 0 };
-            nx = record { run = getD w 18 0; on = c .before .before .before .before .before .before .before .yes3 .ensures i };
+            fault = record { on = c .before .before .before .before .before .before .before .before .before .before .before .before .before .before .before .before .before .before .before .yes2 .ensures i; left = getD w 12 0 };
+            nx = record { run = getD w 18 0; on = c .before .before .before .before .before .before .before .before .before .before .before .before .before .before .before .yes3 .ensures i };
+            directions =
+                record {
+                  positive = record { run = getD w 19 0; watch = c .before .before .before .before .before .before .before .before .before .before .before .watch-from .ensures i };
+                  negative = record { run = getD w 22 0; watch = c .before .before .before .before .before .before .before .watch-from2 .ensures i };
+                };
           };
       stop = c .before .before .before .stop-from .ensures i;
       previous = c .previous-from .ensures i;
@@ -135,6 +164,14 @@ state-from-spec =
     element-copy-out-t45
     element-copy-out-yes-3
     yes-requires-3
+    element-copy-out-t53
+    element-copy-out-watch-from
+    element-copy-out-watch-from-2
+    watch-from-requires
+    element-copy-out-t64
+    element-copy-out-watch-from-3
+    element-copy-out-watch-from-4
+    watch-from-requires-2
     element-copy-out-stop-from
     element-copy-out-stop-from-2
     element-copy-out-stop-from-3

@@ -1,58 +1,18 @@
--- `image::words_of` meets its contract. Assumes nothing.
-use mir.Syntax.{w32}
-use mir.Val.{SFits}
-use mir.Facts.{toZ-ofZ}
-use Rattle.image.specs.Image.{stateWords, Fits}
-use Rattle.crossing.proofs.Twos.{is-signed}
-use Rattle.image.proofs.Back.{written}
+-- `image::words_of` meets its contract: the directions and the front, over any words. Assumes nothing.
+use lib.ListN.{replicate}
+use Rattle.image.proofs.Back.{written-both}
 use borrow.Author.Needs.{needs}
 use Rattle.image.proofs.words_of.Statement.{statement}
 use Rattle.image.proofs.words_of.Tie as tie
 
-previous-words-requires : tie.Need-previous-words-requires
-previous-words-requires c κs = search needs
+put-directions-requires : tie.Need-put-directions-requires
+put-directions-requires c κs = search needs
 
-selection-words-requires : tie.Need-selection-words-requires
-selection-words-requires c κs = search needs
-
-stop-words-requires : tie.Need-stop-words-requires
-stop-words-requires c κs = search needs
-
-cast-t14 : tie.Need-cast-t14
-cast-t14 c = search needs
-
-cast-t15 : tie.Need-cast-t15
-cast-t15 c = search needs
-
-yes-word-requires : tie.Need-yes-word-requires
-yes-word-requires c κs = search needs
-
-unsigned-requires : tie.Need-unsigned-requires
-unsigned-requires c κs = search needs
-
-yes-word-requires-2 : tie.Need-yes-word-requires-2
-yes-word-requires-2 c κs = search needs
-
-yes-word-requires-3 : tie.Need-yes-word-requires-3
-yes-word-requires-3 c κs = search needs
+put-front-requires : tie.Need-put-front-requires
+put-front-requires c κs = search needs
 
 returns : tie.Need-returns
-unfolding stateWords
-returns c = let a = c .before .before .before .before .before .before .before .before .before .before .before .before .before .args in let f : SFits w32 (a .state .kept .choice .reference) = search needs in
-    let fits : Fits (a .state) = record { k = search needs; effective = c .before .before .before .before .before .before .before .selection-words .ensures .1; reference = is-signed _ f; stop = c .before .before .before .before .before .before .stop-words .ensures .1; previous = c .before .before .before .before .before .before .before .before .previous-words .ensures .1 } in
-    written (a .count) (a .state) fits (simp (c .before .before .before .before .before .before .before .before .previous-words .ensures .0, c .before .before .before .before .yes-word .ensures, c .before .before .before .before .before .before .before .selection-words .ensures .0, c .before .before .unsigned .ensures, c .before .yes-word2 .ensures, c .yes-word3 .ensures, c .before .before .before .before .before .before .stop-words .ensures .0, toZ-ofZ f))
+returns c = let a = c .before .before .before .before .before .before .args in written-both (a .count) (a .state) (replicate 25 0) (c .before .before .put-directions .ensures) (c .put-front .ensures)
 
 pub words-of-spec : {M : Type 1} → statement M
-words-of-spec =
-    tie.close
-    (tie.spec
-    previous-words-requires
-    selection-words-requires
-    stop-words-requires
-    cast-t14
-    cast-t15
-    yes-word-requires
-    unsigned-requires
-    yes-word-requires-2
-    yes-word-requires-3
-    returns)
+words-of-spec = tie.close (tie.spec put-directions-requires put-front-requires returns)

@@ -33,8 +33,11 @@ external-requires-4 c κs = search needs
 hold-left-requires : tie.Need-hold-left-requires
 hold-left-requires c κs = search needs
 
+rank-requires : tie.Need-rank-requires
+rank-requires c κs = search needs
+
 returns : tie.Need-returns
-returns c = simp (c .hold-left .ensures, c .before .external4 .ensures, c .before .before .external3 .ensures, c .before .before .before .external2 .ensures, c .before .before .before .before .external .ensures, c .before .before .before .before .before .se-rank .ensures, c .before .before .before .before .before .before .outside .ensures, c .before .before .before .before .before .before .before .sg-rank .ensures, c .before .before .before .before .before .before .before .before .over-speed .ensures, c .before .before .before .before .before .before .before .before .before .standstill-left .ensures)
+returns c = simp (c .rank .ensures, c .before .hold-left .ensures, c .before .before .external4 .ensures, c .before .before .before .external3 .ensures, c .before .before .before .before .external2 .ensures, c .before .before .before .before .before .external .ensures, c .before .before .before .before .before .before .se-rank .ensures, c .before .before .before .before .before .before .before .outside .ensures, c .before .before .before .before .before .before .before .before .sg-rank .ensures, c .before .before .before .before .before .before .before .before .before .over-speed .ensures, c .before .before .before .before .before .before .before .before .before .before .standstill-left .ensures)
 
 pub rows-spec : {M : Type 1} → statement M
 rows-spec =
@@ -50,4 +53,5 @@ rows-spec =
     external-requires-3
     external-requires-4
     hold-left-requires
+    rank-requires
     returns)

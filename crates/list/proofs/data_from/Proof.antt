@@ -10,7 +10,7 @@ use Rattle.list.proofs.data_from.Tie as tie
 
 abbrev Inv-loop : tie.InvT-loop
 Inv-loop words count values₀ at₀ k₀ values at k =
-    (k ≤ count) × (gather (count - k) words k at values ≡ gather count words 0 1 zeros)
+    (k ≤ count) × (gather count (count - k) words k at values ≡ gather count count words 0 1 zeros)
 
 abbrev μ-loop : tie.MeasureT-loop
 μ-loop words count values₀ at₀ k₀ values at k = count - k

@@ -13,7 +13,10 @@ returns-3 : tie.Need-returns-3
 returns-3 c = simp (c .match .keys3)
 
 returns-4 : tie.Need-returns-4
-returns-4 c = simp (ne-eqb _ _ (c .match .rest .0 .0 .1), ne-eqb _ _ (c .match .rest .0 .1), ne-eqb _ _ (c .match .rest .1))
+returns-4 c = simp (c .match .keys4)
+
+returns-5 : tie.Need-returns-5
+returns-5 c = simp (ne-eqb _ _ (c .match .rest .0 .0 .0 .1), ne-eqb _ _ (c .match .rest .0 .0 .1), ne-eqb _ _ (c .match .rest .0 .1), ne-eqb _ _ (c .match .rest .1))
 
 pub is-head-spec : {M : Type 1} → statement M
-is-head-spec = tie.close (tie.spec returns returns-2 returns-3 returns-4)
+is-head-spec = tie.close (tie.spec returns returns-2 returns-3 returns-4 returns-5)

@@ -14,7 +14,7 @@ number-requires : tie.Need-number-requires
 number-requires c κs = search needs
 
 cast-bit : tie.Need-cast-bit
-cast-bit c = omega (arith, c .number .ensures, number-high (c .before .args .values .now) 1 31 (lit< tt) refl)
+cast-bit c = omega (arith, c .number .ensures, number-high (c .before .args .values .now) 1 63 (lit< tt) refl)
 
 bit-requires : tie.Need-bit-requires
 bit-requires c κs = search needs

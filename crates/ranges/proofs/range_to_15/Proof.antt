@@ -9,7 +9,7 @@ returns : tie.Need-returns
 returns c = range-along (pos 1) (pos 25) 0 1 _ tt tt (omega arith) (c .if1 .taken)
 
 returns-2 : tie.Need-returns-2
-returns-2 c = range-along (pos 0) (pos 31) 1 1 _ tt tt (c .before .if1 .left) (c .if2 .taken)
+returns-2 c = range-along (pos 0) (pos 63) 1 1 _ tt tt (c .before .if1 .left) (c .if2 .taken)
 
 returns-3 : tie.Need-returns-3
 returns-3 c = range-along (pos 0) (pos 100000) 2 1 _ tt tt (c .before .if2 .left) (c .if3 .taken)

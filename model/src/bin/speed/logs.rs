@@ -8,15 +8,16 @@ pub type Kit = Result<Vec<u8>, String>;
 /// A log's name, and its kit with so many cycles.
 pub type Log = (&'static str, fn(usize) -> Kit);
 
-pub const LOGS: [Log; 9] = [
+pub const LOGS: [Log; 10] = [
     ("quiet SG", |cycles| log(QUIET, cycles)),
     ("gears", |cycles| log(GEARS, cycles)),
     ("n<nx", |cycles| log(NX, cycles)),
+    ("safe direction", |cycles| log(DIRECTION, cycles)),
     ("stops, F and acknowledgements", |cycles| log(STOPS, cycles)),
     ("unusable", |cycles| log(UNUSABLE, cycles)),
     ("cams", |cycles| log(CAMS, cycles)),
-    (ACROSS, |cycles| across(CHANCE, cycles)),
-    (FAR, |cycles| far(CHANCE, cycles)),
+    (ACROSS, |cycles| across(CAMS_CHANCE, cycles)),
+    (FAR, |cycles| far(CAMS_CHANCE, cycles)),
     ("by chance", |cycles| Ok(random::kit_of(CHANCE, cycles))),
 ];
 
@@ -24,13 +25,17 @@ pub const ACROSS: &str = "cams, by chance across the edges";
 
 pub const FAR: &str = "cams, by chance far from the edges";
 
-/// A seed whose kit has every function on, and whose log comes to every rank. The cams' logs take it too.
-const CHANCE: u64 = 21_242;
+/// A seed whose kit has every function on, and whose log comes to every rank.
+const CHANCE: u64 = 66_120;
 
-pub const LISTS: [(&str, &str); 4] = [
+/// That of the cams' logs.
+const CAMS_CHANCE: u64 = 21_242;
+
+pub const LISTS: [(&str, &str); 5] = [
     ("whole numbers", "lists A and B"),
     ("whole numbers, 67 data", "lists A and B of 67 data"),
     ("whole numbers, 69 data", "lists A and B of 69 data"),
+    ("whole numbers, 72 data", "lists A and B of 72 data"),
     (
         "binary64",
         "lists A and B
@@ -73,6 +78,25 @@ const NX: Pattern = (
         "both 149 off",
         "both -31 off",
         "both 119 off",
+    ],
+);
+
+/// Safe direction: delays, watches whose extremes move, and their ends.
+const DIRECTION: Pattern = (
+    "lists A and B of 72 data
+      0 = 12
+      1 = 32
+      69 = 100
+      70 = 1",
+    &[
+        "both 0 off both-ways",
+        "both 10 off positive-only",
+        "both 20 off",
+        "both 30 off",
+        "both 25 off",
+        "both 60 off",
+        "both 10 off negative-only",
+        "both 0 off negative-only",
     ],
 );
 

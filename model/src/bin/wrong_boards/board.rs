@@ -17,7 +17,7 @@ use std::process::{Command, ExitStatus, Stdio};
 use std::time::{Duration, Instant};
 
 /// The modules of a board: what a listing is made by.
-pub const MODULES: [&str; 13] = [
+pub const MODULES: [&str; 14] = [
     "words",
     "whole",
     "machine_data",
@@ -25,6 +25,7 @@ pub const MODULES: [&str; 13] = [
     "gear",
     "stop",
     "selection",
+    "direction",
     "causes",
     "nx",
     "channel",

@@ -15,7 +15,7 @@ pub struct Change {
 
 /// States of a channel, in the words of each source: a wrong board looks at something, or does
 /// something, only in one of them, or only out of it.
-const STATES: [(&str, &[&str]); 5] = [
+const STATES: [(&str, &[&str]); 6] = [
     (
         "channel.rs",
         &[
@@ -43,6 +43,8 @@ const STATES: [(&str, &[&str]); 5] = [
             "inputs & GEAR_BITS == 0",
             "self.nx.value",
             "self.nx.run > 0",
+            "self.directions.positive.watch.is_some()",
+            "self.directions.negative.run > 0",
         ],
     ),
     (
@@ -72,6 +74,23 @@ const STATES: [(&str, &[&str]); 5] = [
             "self.on",
             "self.count > 0",
             "self.0 > 0",
+        ],
+    ),
+    (
+        "direction.rs",
+        &[
+            "self.watch.is_some()",
+            "self.run > 1",
+            "direction == Direction::Positive",
+            "moment.d == 0",
+            "moment.d < 0",
+            "moment.position < 0",
+            "moment.k == 0",
+            "moment.selected == Selection::Nothing",
+            "moment.inputs & crate::gear::GEAR_BITS == 0",
+            "moment.inputs & DIRECTION_BITS == 0",
+            "moment.inputs == moment.report.inputs",
+            "moment.position == moment.report.position",
         ],
     ),
     (

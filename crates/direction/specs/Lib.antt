@@ -1,0 +1,2 @@
+pub mod Direction
+pub mod Since

@@ -1,0 +1,1 @@
+// When a watch stands and when cause 14 does, over every list of cycles: theorems, and no function.

@@ -1,8 +1,0 @@
-// The numbers that the head of a list may hold, each the number of its data.
-pub const BASE: usize = 51;
-
-// From here on a list has the gears' ratios.
-pub const GEARS: usize = 67;
-
-// From here on it has the hysteresis and the filter of n<nx.
-pub const NX: usize = 69;

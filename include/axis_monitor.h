@@ -44,12 +44,13 @@ typedef struct monitor_channel {
 #define MONITOR_STATE_CAMS 16         /* cam signals, SN1+ in bit 0 */
 #define MONITOR_STATE_NX 17           /* 1 if n<nx is 1; worked out while its function is off too, and left as it is by an unusable cycle */
 #define MONITOR_STATE_NX_RUN 18       /* usable cycles running in which the speed was below nx, not counted past 1,001 */
-/* The last six: a cycle that is unusable, or has safe direction off, leaves them as they are; with it off none begins. */
+/* The last six: monitor_cycle leaves them as they are where the inputs are unusable or safe direction is off, and with it off no run and no
+   watch begins; monitor_run_log writes them anew, with the same meaning. */
 #define MONITOR_STATE_POSITIVE_RUN 19     /* usable cycles running in which only positive travel was allowed, not counted past 1,001 */
-#define MONITOR_STATE_POSITIVE_WATCH 20   /* 1 if this is watched */
+#define MONITOR_STATE_POSITIVE_WATCH 20   /* 1 if the watch stands */
 #define MONITOR_STATE_POSITIVE_EXTREME 21 /* the highest position since the watch began, signed; 0 without a watch */
 #define MONITOR_STATE_NEGATIVE_RUN 22     /* the same three of negative travel */
-#define MONITOR_STATE_NEGATIVE_WATCH 23   /* 1 if this is watched */
+#define MONITOR_STATE_NEGATIVE_WATCH 23   /* 1 if the watch stands */
 #define MONITOR_STATE_NEGATIVE_EXTREME 24 /* the lowest position since the watch began, signed; 0 without a watch */
 
 #define MONITOR_NOTHING 0   /* nothing is effective */
@@ -81,8 +82,8 @@ typedef struct monitor_channel {
 #define MONITOR_IN_BITS 0xf03c101bu       /* all of these: what an input word may have with a list of 51 data */
 #define MONITOR_IN_GEAR 0x00000700u       /* number of the gear ratio; must be 0 with a list of 51 data */
 #define MONITOR_IN_GEAR_AT 8              /* its lowest bit */
-#define MONITOR_IN_POSITIVE_OFF 0x00002000u /* 0: only positive travel is allowed; must be 0 while safe direction is off */
-#define MONITOR_IN_NEGATIVE_OFF 0x00004000u /* 0: only negative travel is allowed; as before. Every bit that is not named must be 0 */
+#define MONITOR_IN_POSITIVE_ONLY_OFF 0x00002000u /* 0: only positive travel is allowed; must be 0 while safe direction is off */
+#define MONITOR_IN_NEGATIVE_ONLY_OFF 0x00004000u /* 0: only negative travel is allowed; as before. Every bit that is not named must be 0 */
 
 /* Bits of a channel word. */
 #define MONITOR_WORD_EFFECTIVE 0x00000001u /* SBH or SG effective */

@@ -55,7 +55,7 @@ fn facts() -> String {
         format!("MONITOR_KIT == {}", listing::LARGEST),
         format!("MONITOR_IN_BITS == {}u", channel::INPUT_BITS),
         format!("MONITOR_IN_GEAR == {GEAR_BITS}u"),
-        format!("(MONITOR_IN_POSITIVE_OFF | MONITOR_IN_NEGATIVE_OFF) == {DIRECTION_BITS}u"),
+        format!("(MONITOR_IN_POSITIVE_ONLY_OFF | MONITOR_IN_NEGATIVE_ONLY_OFF) == {DIRECTION_BITS}u"),
         format!("sizeof(monitor_channel) == {}", size_of::<Channel>()),
     ];
     let states = image::NAMES.iter().enumerate();

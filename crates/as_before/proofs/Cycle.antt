@@ -51,7 +51,7 @@ ways false true e f h = absurd (true≢false (sym e))
 ways false false e f h = h
 
 -- of something that each way comes to
-ways-to : {X Y : Type 0} (f : X → Y) (x y z : X) (a b : Bool) → a ≡ b → (a ≡ true → f x ≡ f y) → f (cond a x z) ≡ f (cond b y z)
+pub ways-to : {X Y : Type 0} (f : X → Y) (x y z : X) (a b : Bool) → a ≡ b → (a ≡ true → f x ≡ f y) → f (cond a x z) ≡ f (cond b y z)
 ways-to f x y z true true e h = h refl
 ways-to f x y z true false e h = absurd (true≢false e)
 ways-to f x y z false true e h = absurd (true≢false (sym e))

@@ -1,5 +1,5 @@
--- A cycle under any rules. All else is taken as it is now: the table of causes and what a usable cycle leaves are those of now, with the step, the cause 13
--- and the directions of the rules, and the rows that they have of it; n<nx goes on in the state, whatever the rules show of it. That the comparisons of a step of 1 to 1 are document 01's is `too-fast-51` and
+-- A cycle under any rules. They give the ratio, causes 12 and 13, the directions and which rows of the table a cycle has; all else is as it is now. n<nx
+-- goes on in the state, whatever the rules show of it. That the comparisons of a step of 1 to 1 are document 01's is `too-fast-51` and
 -- `slower-51` in proofs/Headed51.antt; and data 0 to 50 are read by its table, `datum-51` in proofs/Lists.antt.
 use Prim.Native.Nat.{ℕ}
 use mathlib.Core.Bool.{Bool, true, not, cond, _&&_}

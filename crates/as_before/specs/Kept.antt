@@ -94,7 +94,7 @@ pub record UnsteadiedKit (words : List ℕ) : Type 0 where
 
 -- ---- W6
 
--- a list without function 5, as every one of 51, 67 or 69 data (`short-undirected` in proofs/Directed.antt)
+-- a list without function 5, as every one of 51, 67 or 69 data (`short-undirected` in proofs/Short.antt)
 abbrev pub Undirected : MachineData → Type 0
 Undirected m = functionOf (m .values) 5 ≡ false
 

@@ -38,7 +38,7 @@ Cause13 = List ℤ → Selection → Fault → Bool
 abbrev pub Nx : Type 0
 Nx = List ℤ → Step → Signal → Bool
 
--- safe direction: whether bits 13 and 14 may be 1, what a usable cycle makes of the directions, and what of the table of causes a cycle has
+-- safe direction: whether bits 13 and 14 may be 1, what a usable cycle makes of the directions, and which rows of the table of causes a cycle has
 pub record Guarding : Type 0 where
   pub bits : List ℤ → Bool
   pub watched : List ℤ → Reading → Directions → Watched

@@ -76,8 +76,8 @@ pub extern "C" fn monitor_report(
 // changes would else be chosen one by one behind them. And the compiler can put the reckoning of the cams to the end of theirs,
 // beside the word that shows them, and takes all eight at once.
 
-// The directions of a usable cycle. Where the function is on, they go into the caller's memory at once: of a list without it, a
-// cycle then neither reads nor writes their words.
+// The directions of a usable cycle. Where the function is on, they go into the caller's memory at once: with a list
+// without it, their words are then not written, and in the machine code not read.
 fn guard(values: &Values, before: State, reading: Reading, state: &mut Image) -> Watched
     ensures { λ r. ⌜ r ≡ watchedOf (now (values .entry)) reading (before .kept .directions) ⌝ }
     ensures { λ _. ⌜ directionsAs (now (state .exit)) ≡ guarding (now (values .entry)) reading (before .kept .directions) (now (state .entry)) ⌝ }

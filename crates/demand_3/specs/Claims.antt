@@ -1,4 +1,4 @@
--- The claims of demand 3 over numbered cycles: document 01, "The runs of demand 3". They speak of three functions of a cycle's number, from 0: `L n` is the
+-- The claims of demand 3 over numbered cycles: document 01, "The runs of demand 3", W2 and W6. They speak of three functions of a cycle's number, from 0: `L n` is the
 -- list in force in cycle n, `S n` the state that the cycle finds, and `G n` what it is given. Ranks, causes and data of a cycle go by its own list.
 use Prim.Native.Nat.{ℕ, suc, _+_, _≤_, _<_}
 use mathlib.Core.Bool.{Bool, false, not, cond, _||_}

@@ -20,6 +20,8 @@
 --   - The device rank is never below the channel word's, which is lower than in the cycle before only in a cycle that clears."
 --
 -- Request W2, of cause 10: "The bound on cycles after a position difference then holds for axes on which one of these is active throughout."
+-- Request W6: "Cause 14 has the rank of datum 71 and, from the start of its watch, joins 2, 3 and 4 as a limit of demand 3." When it stands, with no watch
+-- kept, is the theorem of direction_history.
 --
 -- How to read these files. This one ends with `Demand3`, the theorem's statement, proved in proofs/Demand3.antt. It speaks of every list of words that the
 -- list reader accepts, of every list of calls, and of all words that these calls may give on the fresh channel: what a call answers is no more than its

@@ -10,14 +10,14 @@ use Rattle.machine_data.specs.Data.{numberOf}
 use Rattle.runs.specs.Run.{runNext}
 use Rattle.direction.specs.declared.Sign.{Sign}
 use Rattle.direction.specs.declared.Watch.{Watch}
-use Rattle.direction.specs.declared.Watch.the-variants.{Off, From}
+use Rattle.direction.specs.declared.Watch.the-variants.{Off, On}
 use Rattle.direction.specs.declared.Direction.{Direction}
 use Rattle.direction.specs.Direction.{ahead, furthest, watchNext, directionNext, beyondBy}
 use Rattle.direction.proofs.Signs.{opposite, mirror}
 
 abbrev mirroredWatch : Watch → Watch
 mirroredWatch Off = Off
-mirroredWatch (From extreme) = From (negℤ extreme)
+mirroredWatch (On extreme) = On (negℤ extreme)
 
 abbrev mirrored : Direction → Direction
 mirrored x = record { run = x .run; watch = mirroredWatch (x .watch) }
@@ -34,10 +34,10 @@ module _ (d : List ℤ) (sign : Sign) (p : ℤ) where
   mirrored-watch : (run : ℕ) (w : Watch) → watchNext d (opposite sign) run (negℤ p) (mirroredWatch w) ≡ mirroredWatch (watchNext d sign run p w)
   mirrored-watch run Off = go (ltb (numberOf d 70) run)
     where
-      go : (t : Bool) → cond t (From (negℤ p)) Off ≡ mirroredWatch (cond t (From p) Off)
+      go : (t : Bool) → cond t (On (negℤ p)) Off ≡ mirroredWatch (cond t (On p) Off)
       go true = refl
       go false = refl
-  mirrored-watch run (From e) = ap From (mirrored-furthest e)
+  mirrored-watch run (On e) = ap On (mirrored-furthest e)
 
   pub mirrored-next : (free : Bool) (x : Direction) → directionNext d (opposite sign) free (negℤ p) (mirrored x) ≡ mirrored (directionNext d sign free p x)
   unfolding directionNext
@@ -46,4 +46,4 @@ module _ (d : List ℤ) (sign : Sign) (p : ℤ) where
 
   pub mirrored-beyond : (w : Watch) → beyondBy d (opposite sign) (negℤ p) (mirroredWatch w) ≡ beyondBy d sign p w
   mirrored-beyond Off = refl
-  mirrored-beyond (From e) = ap (ltZ (pos (numberOf d 69))) (mirror sign e p)
+  mirrored-beyond (On e) = ap (ltZ (pos (numberOf d 69))) (mirror sign e p)

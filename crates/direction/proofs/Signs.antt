@@ -1,5 +1,4 @@
--- The laws of the sign, each for both at once: distances in the allowed direction add up, turn about, and are mirrored. Nothing else asks which sign it is.
--- Assumes nothing.
+-- The laws of the sign, each for both at once: distances in the allowed direction add up, turn about, and are mirrored. No other law asks which sign it is. Assumes nothing.
 use Prim.Native.Nat.{ℕ, zero, suc, _+_}
 use mathlib.Core.Path.{_≡_, sym, ap, _∙_, subst}
 use mathlib.Core.Bool.{Bool, true, false, cond}

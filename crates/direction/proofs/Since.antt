@@ -22,7 +22,7 @@ use Rattle.runs.proofs.Running.{above-running, running-above, still-running}
 use Rattle.runs.proofs.Since
 use Rattle.direction.specs.declared.Sign.{Sign}
 use Rattle.direction.specs.declared.Watch.{Watch}
-use Rattle.direction.specs.declared.Watch.the-variants.{Off, From}
+use Rattle.direction.specs.declared.Watch.the-variants.{Off, On}
 use Rattle.direction.specs.declared.Direction.{Direction}
 use Rattle.direction.specs.Direction.{ahead, furthest, watchNext, noDirection, directionNext, beyondBy}
 use Rattle.direction.specs.Since.{bound, Beyond}
@@ -31,7 +31,7 @@ use Rattle.direction.proofs.Signs.{through, back, itself, NotAhead, nei
 -- whether there is a watch
 abbrev pub stands : Watch → Bool
 stands Off = false
-stands (From extreme) = true
+stands (On extreme) = true
 
 part : {X Y : Type 0} (f : X → Y) (u : Bool) (x y : X) → f (cond u x y) ≡ cond u (f x) (f y)
 part f true x y = refl
@@ -50,7 +50,7 @@ module _ (d : List ℤ) (sign : Sign) (p : ℤ) (x : Direction) where
   stands-next true = refl
   stands-next false = go (x .watch)
     where
-      begun : (t : Bool) → stands (cond t (From p) Off) ≡ cond t true false
+      begun : (t : Bool) → stands (cond t (On p) Off) ≡ cond t true false
       begun true = refl
       begun false = refl
 
@@ -60,7 +60,7 @@ module _ (d : List ℤ) (sign : Sign) (p : ℤ) (x : Direction) where
 
       go : (w : Watch) → stands (watchNext d sign (runNext true (x .run)) p w) ≡ cond (ltb (numberOf d 70) (runNext true (x .run))) true (stands w)
       go Off = begun (ltb (numberOf d 70) (runNext true (x .run)))
-      go (From extreme) = kept (ltb (numberOf d 70) (runNext true (x .run)))
+      go (On extreme) = kept (ltb (numberOf d 70) (runNext true (x .run)))
 
 -- ---- numbered cycles: x n is the direction before cycle n, d n the data of its list
 
@@ -183,7 +183,7 @@ module _ (usable free : ℕ → Bool) (position : ℕ → ℤ) (d : ℕ → List
             (λ l. let same : n ≡ i = omega (arith, p, l) in subst (λ (j : ℕ). NotAhead (ahead sign (position j) (position n))) same (subst NotAhead (sym (itself sign (position n))) (λ z. z)));
       }
 
-  extreme-at : (n : ℕ) (e : ℤ) → x n .watch ≡ From e → Extreme n e
+  extreme-at : (n : ℕ) (e : ℤ) → x n .watch ≡ On e → Extreme n e
   extreme-at zero e q = absurd (true≢false (sym (ap stands q) ∙ off))
   extreme-at (suc n) e q = go (usable n) refl (free n) refl (x n .watch) refl (sym (watch-at n) ∙ q) (extreme-at n)
     where
@@ -194,19 +194,19 @@ module _ (usable free : ℕ → Bool) (position : ℕ → ℤ) (d : ℕ → List
       bound-if e u f = subst T e f
 
       go : (u : Bool) → usable n ≡ u → (f : Bool) → free n ≡ f → (w : Watch) → x n .watch ≡ w →
-          cond u (cond f Off (watchNext (d n) sign (runNext true (run n)) (position n) w)) w ≡ From e → ((e′ : ℤ) → x n .watch ≡ From e′ → Extreme n e′) → Extreme (suc n) e
+          cond u (cond f Off (watchNext (d n) sign (runNext true (run n)) (position n) w)) w ≡ On e → ((e′ : ℤ) → x n .watch ≡ On e′ → Extreme n e′) → Extreme (suc n) e
       go false p f r w z k rest = stays-extreme n e (rest e (z ∙ k)) (λ u _. subst T p u) (λ u. absurd (subst T p u))
       go true p true r w z k rest = absurd (true≢false (sym (ap stands k)))
       go true p false r Off z k rest = begun (ltb (numberOf (d n) 70) (runNext true (run n))) k
         where
-          begun : (t : Bool) → cond t (From (position n)) Off ≡ From e → Extreme (suc n) e
+          begun : (t : Bool) → cond t (On (position n)) Off ≡ On e → Extreme (suc n) e
           begun true k =
               let is : position n ≡ e = cc in
               subst (Extreme (suc n)) is
               (new-extreme n (subst T (sym p) tt) standing
               (λ i l u t h. absurd (subst (λ (w : Watch). T (stands w)) z (kept-on i n l t (λ j a b. h j a (omega (arith, b)))))))
           begun false k = absurd (true≢false (sym (ap stands k)))
-      go true p false r (From before) z k rest = moved (ltZ (pos 0) (ahead sign (position n) before)) refl (rest before z)
+      go true p false r (On before) z k rest = moved (ltZ (pos 0) (ahead sign (position n) before)) refl (rest before z)
         where
           is : furthest sign before (position n) ≡ e
           is = cc
@@ -230,7 +230,7 @@ module _ (usable free : ℕ → Bool) (position : ℕ → ℤ) (d : ℕ → List
     where
       go : (w : Watch) → x (suc n) .watch ≡ w → T (beyondBy (d n) sign (position n) w) → Beyond usable free position delay sign (numberOf (d n) 69) n
       go Off q t = absurd t
-      go (From e) q t =
+      go (On e) q t =
           let y = extreme-at (suc n) e q in
           record {
             at = y .at;
@@ -249,7 +249,7 @@ module _ (usable free : ℕ → Bool) (position : ℕ → ℤ) (d : ℕ → List
     where
       go : (w : Watch) → x (suc n) .watch ≡ w → T (on (suc (b .at))) → NotEnded (b .at) (suc n) → T (on (suc n)) → T (beyondBy (d n) sign (position n) w)
       go Off q stood not-ended t = absurd (subst (λ (w : Watch). T (stands w)) q t)
-      go (From e) q stood not-ended t =
+      go (On e) q stood not-ended t =
           let y = extreme-at (suc n) e q in
           let not-ahead = y .highest (b .at) (omega (arith, b .not-later)) (b .used) stood not-ended in
           subst (λ (z : ℤ). T (ltZ (pos (numberOf (d n) 69)) z)) (through sign e (position (b .at)) (position n))

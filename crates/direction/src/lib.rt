@@ -17,7 +17,7 @@ pub enum Sign {
 // The watch of a direction: none, or with its extreme, the position furthest in the allowed direction since it began.
 pub enum Watch {
     Off,
-    From(i32),
+    On(i32),
 }
 
 // In how many usable cycles running the direction's bit has been 0, and its watch. The watch is a state of its own: it goes on
@@ -27,7 +27,7 @@ pub struct Direction {
     pub watch: Watch,
 }
 
-// Of an axis that may only go up, and of one that may only go down.
+// Only positive travel, and only negative travel.
 pub struct Directions {
     pub positive: Direction,
     pub negative: Direction,
@@ -68,12 +68,12 @@ impl Watch {
         match self {
             Watch::Off => {
                 if machine_data::cycles(values, numbers::DIRECTION_DELAY) < run {
-                    Watch::From(reading.position)
+                    Watch::On(reading.position)
                 } else {
                     Watch::Off
                 }
             }
-            Watch::From(extreme) => Watch::From(furthest(sign, extreme, reading)),
+            Watch::On(extreme) => Watch::On(furthest(sign, extreme, reading)),
         }
     }
 
@@ -83,8 +83,8 @@ impl Watch {
     {
         match self {
             Watch::Off => false,
-            Watch::From(extreme) => {
-                (machine_data::cycles(values, numbers::DIRECTION_TOLERANCE) as i64)
+            Watch::On(extreme) => {
+                (machine_data::number(values, numbers::DIRECTION_TOLERANCE) as i64)
                     < ahead(sign, extreme, reading.position)
             }
         }
@@ -135,11 +135,11 @@ impl Directions {
     {
         let positive = self.positive;
         let negative = self.negative;
-        let up = inputs::positive_only_off(reading.inputs);
-        let down = inputs::negative_only_off(reading.inputs);
+        let positive_free = inputs::positive_only_off(reading.inputs);
+        let negative_free = inputs::negative_only_off(reading.inputs);
         Directions {
-            positive: positive.next(values, Sign::Positive, up, reading),
-            negative: negative.next(values, Sign::Negative, down, reading),
+            positive: positive.next(values, Sign::Positive, positive_free, reading),
+            negative: negative.next(values, Sign::Negative, negative_free, reading),
         }
     }
 
@@ -149,12 +149,12 @@ impl Directions {
     {
         let positive = self.positive;
         let negative = self.negative;
-        let up = positive.watch;
-        let down = negative.watch;
-        if up.beyond(values, Sign::Positive, reading) {
+        let positive_watch = positive.watch;
+        let negative_watch = negative.watch;
+        if positive_watch.beyond(values, Sign::Positive, reading) {
             true
         } else {
-            down.beyond(values, Sign::Negative, reading)
+            negative_watch.beyond(values, Sign::Negative, reading)
         }
     }
 

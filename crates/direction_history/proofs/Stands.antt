@@ -17,7 +17,7 @@ use Rattle.direction.specs.declared.Sign.the-variants.{Positive, Negative}
 use Rattle.direction.specs.declared.Direction.{Direction}
 use Rattle.direction.specs.declared.Directions.{Directions}
 use Rattle.direction.specs.declared.Watch.{Watch}
-use Rattle.direction.specs.declared.Watch.the-variants.{Off, From}
+use Rattle.direction.specs.declared.Watch.the-variants.{Off, On}
 use Rattle.direction.specs.Direction.{noDirection, noDirections, directionNext, directionsNext, beyondBy, overstepped, watchedOf}
 use Rattle.direction.specs.Since.{bound, Beyond}
 use Rattle.direction.proofs.Since as D
@@ -122,9 +122,9 @@ unfolding history
 cause-14 m cs n = cause-at (λ i. m) (history m cs) cs refl (λ i. refl) n
 
 -- a watch that stands has an extreme
-extreme-of : (w : Watch) → T (D.stands w) → (e : ℤ) × (w ≡ From e)
+extreme-of : (w : Watch) → T (D.stands w) → (e : ℤ) × (w ≡ On e)
 extreme-of Off t = absurd t
-extreme-of (From e) t = (e, refl)
+extreme-of (On e) t = (e, refl)
 
 and-true : (a : Bool) → a && true ≡ a
 and-true true = refl
@@ -148,12 +148,12 @@ module _ (m : MachineData) (on : functionOf (m .values) 5 ≡ true) (cs : ℕ �
       direction-at (λ i. m) (history m cs) cs refl (λ i. refl) sign n
       ∙ ap (λ (u : Bool). cond u (directionNext (m .values) sign (freeIn (λ i. m) cs sign n) (positionIn (λ i. m) cs n) (before n)) (before n)) (ap (λ (f : Bool). used n && f) on ∙ and-true (used n))
 
-  there : (n : ℕ) → T (used n) → (e : ℤ) × (before (suc n) .watch ≡ From e) → Running used (bound (freeIn (λ i. m) cs sign)) (numberOf (m .values) 70) n
+  there : (n : ℕ) → T (used n) → (e : ℤ) × (before (suc n) .watch ≡ On e) → Running used (bound (freeIn (λ i. m) cs sign)) (numberOf (m .values) 70) n
   there n u w =
       D.watch-running used (freeIn (λ i. m) cs sign) (positionIn (λ i. m) cs) (λ n. m .values) sign before starts counts (numberOf (m .values) 70) (λ n. refl) n u
       (subst (λ (w : Watch). T (D.stands w)) (sym (w .1)) tt)
 
-  back : (n : ℕ) → Running used (bound (freeIn (λ i. m) cs sign)) (numberOf (m .values) 70) n → (e : ℤ) × (before (suc n) .watch ≡ From e)
+  back : (n : ℕ) → Running used (bound (freeIn (λ i. m) cs sign)) (numberOf (m .values) 70) n → (e : ℤ) × (before (suc n) .watch ≡ On e)
   back n r =
       extreme-of (before (suc n) .watch)
       (D.running-watch used (freeIn (λ i. m) cs sign) (positionIn (λ i. m) cs) (λ n. m .values) sign before starts counts (numberOf (m .values) 70) (λ n. refl) n r)

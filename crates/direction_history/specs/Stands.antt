@@ -14,7 +14,7 @@ use Rattle.direction.specs.declared.Sign.{Sign}
 use Rattle.direction.specs.declared.Sign.the-variants.{Positive, Negative}
 use Rattle.direction.specs.declared.Direction.{Direction}
 use Rattle.direction.specs.declared.Directions.{Directions}
-use Rattle.direction.specs.declared.Watch.the-variants.{From}
+use Rattle.direction.specs.declared.Watch.the-variants.{On}
 use Rattle.direction.specs.Direction.{noDirections}
 use Rattle.direction.specs.Since.{bound, Beyond}
 use Rattle.state.specs.declared.Given.{Given}
@@ -62,7 +62,7 @@ Cause14 = (m : MachineData) (cs : ℕ → Given) (n : ℕ) → Stands (λ i. m) 
 abbrev pub WatchRuns : Type 0
 WatchRuns =
     (m : MachineData) → functionOf (m .values) 5 ≡ true → (cs : ℕ → Given) (n : ℕ) → T (usableIn (λ i. m) cs n) → (sign : Sign) →
-    ((e : ℤ) × (ofSign sign (history m cs (suc n) .kept .directions) .watch ≡ From e))
+    ((e : ℤ) × (ofSign sign (history m cs (suc n) .kept .directions) .watch ≡ On e))
     ↔ Running (usableIn (λ i. m) cs) (bound (freeIn (λ i. m) cs sign)) (numberOf (m .values) 70) n
 
 -- "With bit 5 off .. no run or watch stands"

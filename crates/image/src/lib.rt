@@ -122,10 +122,10 @@ pub fn put_directions(directions: Directions, words: &mut Image)
 {
     let positive = directions.positive;
     let negative = directions.negative;
-    let rising = positive.watch;
-    let falling = negative.watch;
-    let up = image_cases::watch_words(rising);
-    let down = image_cases::watch_words(falling);
+    let positive_watch = positive.watch;
+    let negative_watch = negative.watch;
+    let only_positive = image_cases::watch_words(positive_watch);
+    let only_negative = image_cases::watch_words(negative_watch);
     *words = [
         words[0],
         words[1],
@@ -147,11 +147,11 @@ pub fn put_directions(directions: Directions, words: &mut Image)
         words[17],
         words[18],
         positive.run,
-        up.kind,
-        up.first,
+        only_positive.kind,
+        only_positive.first,
         negative.run,
-        down.kind,
-        down.first,
+        only_negative.kind,
+        only_negative.first,
     ];
 }
 

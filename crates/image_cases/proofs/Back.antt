@@ -3,7 +3,7 @@ use mathlib.Core.Path.{_≡_, refl, ap}
 use Prim.Native.Nat.{ℕ, _%_, _<_}
 use native.Mathlib.Omega.{arith}
 use Rattle.direction.specs.declared.Watch.{Watch}
-use Rattle.direction.specs.declared.Watch.the-variants.{Off, From}
+use Rattle.direction.specs.declared.Watch.the-variants.{Off, On}
 use Rattle.distance.specs.declared.Previous.{Previous}
 use Rattle.distance.specs.declared.Previous.the-variants.{Absent, At}
 use Rattle.selection.specs.declared.Selection.{Selection}
@@ -23,7 +23,7 @@ previous-back (At position) h = ap At (signed-back position h)
 
 pub watch-back : (w : Watch) → WatchFits w → watchFrom (watchWords w .kind) (watchWords w .first) ≡ w
 watch-back Off h = refl
-watch-back (From extreme) h = ap From (signed-back extreme h)
+watch-back (On extreme) h = ap On (signed-back extreme h)
 
 pub selection-back : (s : Selection) → SelectionFits s → selectionFrom (selectionWords s .kind) (selectionWords s .first) (selectionWords s .second) ≡ s
 selection-back Nothing h = refl

@@ -29,15 +29,15 @@ PreviousFits (At position) = Signed position
 -- ---- the watch of a direction: its extreme
 
 abbrev pub watchFrom : ℕ → ℕ → D.Watch
-watchFrom kind extreme = cond (eqb kind 0) D.the-variants.Off (D.the-variants.From (signedOf extreme))
+watchFrom kind extreme = cond (eqb kind 0) D.the-variants.Off (D.the-variants.On (signedOf extreme))
 
 abbrev pub watchWords : D.Watch → Case
 watchWords D.the-variants.Off = record { kind = 0; first = 0; second = 0 }
-watchWords (D.the-variants.From extreme) = record { kind = 1; first = unsignedOf extreme; second = 0 }
+watchWords (D.the-variants.On extreme) = record { kind = 1; first = unsignedOf extreme; second = 0 }
 
 abbrev pub WatchFits : D.Watch → Type 0
 WatchFits D.the-variants.Off = Unit {0}
-WatchFits (D.the-variants.From extreme) = Signed extreme
+WatchFits (D.the-variants.On extreme) = Signed extreme
 
 -- ---- a selection: an SG's number less one and its override's number are bytes
 

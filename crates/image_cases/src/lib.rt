@@ -50,7 +50,7 @@ pub fn watch_from(kind: u32, extreme: u32) -> Watch
 {
     match kind {
         0 => Watch::Off,
-        _ => Watch::From(crossing::signed(extreme)),
+        _ => Watch::On(crossing::signed(extreme)),
     }
 }
 
@@ -65,7 +65,7 @@ pub fn watch_words(watch: Watch) -> Case
             first: 0,
             second: 0,
         },
-        Watch::From(extreme) => Case {
+        Watch::On(extreme) => Case {
             kind: 1,
             first: crossing::unsigned(extreme),
             second: 0,

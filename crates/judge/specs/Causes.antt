@@ -55,21 +55,27 @@ unfoldable pub differingIn : State → Given → ℕ
 differingIn s g = runOf (s .kept .differing) (g .reading) (g .report)
 
 -- "10 position differs from the report by more than datum 26"; "11 input words differ in more than datum 28 usable cycles running";
--- "12 datum k differs", W1: "also .. where heads differ"
-unfoldable pub differencesIn : MachineData → State → Given → Differences
-differencesIn m s g =
+-- "12 datum k differs", W1: "also .. where heads differ": by the run of differing input words
+abbrev pub differencesBy : MachineData → State → Given → ℕ → Differences
+differencesBy m s g differing =
     record {
       position = positionDiffers (m .values) (g .reading) (g .report);
-      inputs = inputsDiffer (m .values) (differingIn s g);
+      inputs = inputsDiffer (m .values) differing;
       datum = datumDiffers m (s .k) (g .report);
     }
+
+unfoldable pub differencesIn : MachineData → State → Given → Differences
+differencesIn m s g = differencesBy m s g (differingIn s g)
 
 abbrev pub anyDiffers : Differences → Bool
 anyDiffers o = o .position || o .inputs || o .datum
 
 -- "10, 11, 12 set F": F as this cycle's differences leave it
+abbrev pub faultBy : MachineData → State → Differences → Fault
+faultBy m s differs = faultNext (m .values) (anyDiffers differs) (s .kept .fault)
+
 unfoldable pub faultIn : MachineData → State → Given → Fault
-faultIn m s g = faultNext (m .values) (anyDiffers (differencesIn m s g)) (s .kept .fault)
+faultIn m s g = faultBy m s (differencesIn m s g)
 
 -- whether cause 13 stands: by F as this cycle's differences leave it, and by the selection that its step 3 leaves effective
 abbrev pub stopsIn : MachineData → State → Given → Bool
@@ -137,21 +143,10 @@ begunOf d s g =
       differing = runOf (s .kept .differing) (g .reading) (g .report);
     }
 
-abbrev pub differencesBy : MachineData → State → Given → ℕ → Differences
-differencesBy m s g differing =
-    record {
-      position = positionDiffers (m .values) (g .reading) (g .report);
-      inputs = inputsDiffer (m .values) differing;
-      datum = datumDiffers m (s .k) (g .report);
-    }
-
-abbrev pub faultBy : MachineData → State → Given → ℕ → Fault
-faultBy m s g differing = faultNext (m .values) (anyDiffers (differencesBy m s g differing)) (s .kept .fault)
-
 abbrev pub rowsBy : MachineData → State → Given → Begun → Bool → List Cause
 rowsBy m s g b overstepped =
-    table (m .values) (s .stop) (g .reading) (b .choice) (b .step) (differencesBy m s g (b .differing))
-    (faultStops (m .values) (b .choice .effective) (faultBy m s g (b .differing))) overstepped
+    let differs = differencesBy m s g (b .differing) in
+    table (m .values) (s .stop) (g .reading) (b .choice) (b .step) differs (faultStops (m .values) (b .choice .effective) (faultBy m s differs)) overstepped
 
 abbrev pub findingsBy : MachineData → State → Given → Begun → Watched → Findings
 findingsBy m s g b w =
@@ -161,7 +156,7 @@ findingsBy m s g b w =
       choice = b .choice;
       directions = w .directions;
       differing = b .differing;
-      fault = faultBy m s g (b .differing);
+      fault = faultBy m s (differencesBy m s g (b .differing));
       rows = rowsBy m s g b (w .overstepped);
       summary = summaryOf (rowsBy m s g b (w .overstepped));
     }

@@ -33,7 +33,8 @@ size (negsuc n) = 0
 unfoldable pub numberOf : List ℤ → ℕ → ℕ
 numberOf d k = size (datumOf d k)
 
--- W1: "A list headed 51 is read with every ratio 1 to 1"; "in a shorter list they count as 0", a stop as 1, the least that it may be: as what number a datum is read that a list lacks
+-- as what number a datum that a list lacks is read: W1: "A list headed 51 is read with every ratio 1 to 1"; "in a shorter list they count as 0"; a stop, which
+-- nothing then asks for, as the least of its range
 abbrev pub lackedOf : ℕ → ℕ
 lackedOf k = cond ((leb 51 k && leb k 66) || eqb k 71) 1 0
 

@@ -12,20 +12,20 @@ use Rattle.runs.specs.Running.{Running}
 use Rattle.runs.specs.Since.{SetSince}
 use Rattle.runs.proofs.Running.{so-last}
 
--- `on n` is the value before cycle n, `ran n` whether the run that cycle n leaves is above `least n`
-module _ (usable so ends : ℕ → Bool) (least : ℕ → ℕ) (on ran : ℕ → Bool)
+-- `on n` is the value before cycle n, `ran n` whether the run that cycle n leaves is above `span n`
+module _ (usable so ends : ℕ → Bool) (span : ℕ → ℕ) (on ran : ℕ → Bool)
     (fresh : on 0 ≡ false)
     (goes : (n : ℕ) → on (suc n) ≡ cond (usable n) (cond (ends n) false (cond (ran n) true (on n))) (on n))
-    (tells : (n : ℕ) → T (usable n) → T (ran n) → Running usable so (least n) n)
-    (told : (n : ℕ) → Running usable so (least n) n → T (ran n))
+    (tells : (n : ℕ) → T (usable n) → T (ran n) → Running usable so (span n) n)
+    (told : (n : ℕ) → Running usable so (span n) n → T (ran n))
     (apart : (n : ℕ) → T (so n) → T (ends n) → ⊥) where
   -- set before cycle n, where there is one before it
   abbrev Before : ℕ → Type 0
   Before zero = ⊥
-  Before (suc n) = SetSince usable so ends least n
+  Before (suc n) = SetSince usable so ends span n
 
   -- one more cycle, which did not end it
-  on-with : (n : ℕ) → (T (usable n) → T (ends n) → ⊥) → Before n → SetSince usable so ends least n
+  on-with : (n : ℕ) → (T (usable n) → T (ends n) → ⊥) → Before n → SetSince usable so ends span n
   on-with zero not-ended b = absurd b
   on-with (suc n) not-ended b =
       record { last = b .last; not-later = omega (arith, b .not-later); long-enough = b .long-enough; never-ended = later }
@@ -38,7 +38,7 @@ module _ (usable so ends : ℕ → Bool) (least : ℕ → ℕ) (on ran : ℕ →
   set-since (suc n) t = go (usable n) refl (ends n) refl (ran n) refl (subst T (goes n) t) (set-since n)
     where
       go : (u : Bool) → usable n ≡ u → (o : Bool) → ends n ≡ o → (r : Bool) → ran n ≡ r → T (cond u (cond o false (cond r true (on n))) (on n)) → (T (on n) → Before n) →
-          SetSince usable so ends least n
+          SetSince usable so ends span n
       go true p true q r s t rest = absurd t
       go true p false q true s t rest =
           record { last = n; not-later = omega arith; long-enough = tells n (subst T (sym p) tt) (subst T (sym s) tt); never-ended = λ i l h _ _. omega (arith, l, h) }
@@ -46,7 +46,7 @@ module _ (usable so ends : ℕ → Bool) (least : ℕ → ℕ) (on ran : ℕ →
       go false p o q r s t rest = on-with n (λ x _. subst T p x) (rest t)
 
   -- it was set before cycle n, or in it
-  set-before : (n : ℕ) (b : SetSince usable so ends least n) → b .last < n → Before n
+  set-before : (n : ℕ) (b : SetSince usable so ends span n) → b .last < n → Before n
   set-before zero b l = absurd (not-suc-le-zero l)
   set-before (suc n) b l =
       record { last = b .last; not-later = omega (arith, l); long-enough = b .long-enough; never-ended = λ i k h. b .never-ended i k (omega (arith, h)) }
@@ -60,11 +60,11 @@ module _ (usable so ends : ℕ → Bool) (least : ℕ → ℕ) (on ran : ℕ →
       go true p false q false = t
       go false p o q r = t
 
-  sets : (n : ℕ) → Running usable so (least n) n → T (on (suc n))
+  sets : (n : ℕ) → Running usable so (span n) n → T (on (suc n))
   sets n x = subst T (sym (goes n)) (go (usable n) (x .in-n) (ends n) refl (ran n) (told n x))
     where
       go : (u : Bool) → T u → (o : Bool) → ends n ≡ o → (r : Bool) → T r → T (cond u (cond o false (cond r true (on n))) (on n))
-      go true u true q r t = absurd (apart n (so-last usable so (least n) n x) (subst T (sym q) tt))
+      go true u true q r t = absurd (apart n (so-last usable so (span n) n x) (subst T (sym q) tt))
       go true u false q true t = tt
       go true u false q false t = absurd t
       go false u o q r t = absurd u
@@ -74,4 +74,4 @@ module _ (usable so ends : ℕ → Bool) (least : ℕ → ℕ) (on ran : ℕ →
   since-set (suc n) b =
       by-cases (decLe (suc (b .last)) n)
       (λ l. stays n (b .never-ended n l (omega arith)) (since-set n (set-before n b l)))
-      (λ l. let is : b .last ≡ n = omega (arith, b .not-later, l) in sets n (subst (λ (j : ℕ). Running usable so (least j) j) is (b .long-enough)))
+      (λ l. let is : b .last ≡ n = omega (arith, b .not-later, l) in sets n (subst (λ (j : ℕ). Running usable so (span j) j) is (b .long-enough)))

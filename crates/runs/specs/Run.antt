@@ -1,4 +1,4 @@
--- A run, counted from cycle to cycle: document 01, step 4, cause 11, and W3.
+-- A run, counted from cycle to cycle: document 01, step 4, cause 11, W3 and W6.
 use Prim.Native.Nat.{ℕ, _+_, min}
 use mathlib.Core.Bool.{Bool, cond}
 

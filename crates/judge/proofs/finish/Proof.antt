@@ -51,7 +51,7 @@ returns c =
     let w = a .watched in
     let differs : differences (c .before .before .before .before .before .before .before .position-differs .result) (c .before .before .before .before .before .before .inputs-differ .result) (c .before .before .before .before .before .datum-differs .result) ≡ differencesBy m s g (x .differing) =
     λ i. differences (c .before .before .before .before .before .before .before .position-differs .ensures i) (c .before .before .before .before .before .before .inputs-differ .ensures i) (c .before .before .before .before .before .datum-differs .ensures i) in
-    let fault : c .before .before .before .next .result ≡ faultBy m s g (x .differing) = c .before .before .before .next .ensures ∙ ap (λ (b : Bool). faultNext d b (s .kept .fault)) (c .before .before .before .before .any .ensures ∙ ap anyDiffers differs) in
+    let fault : c .before .before .before .next .result ≡ faultBy m s (differencesBy m s g (x .differing)) = c .before .before .before .next .ensures ∙ ap (λ (b : Bool). faultNext d b (s .kept .fault)) (c .before .before .before .before .any .ensures ∙ ap anyDiffers differs) in
     let stops = c .before .before .fault-stops .ensures ∙ (λ i. faultStops d (x .choice .effective) (fault i)) in
     let rows : c .before .rows .result ≡ rowsBy m s g x (w .overstepped) = c .before .rows .ensures ∙ (λ i. table d (s .stop) (g .reading) (x .choice) (x .step) (differs i) (stops i) (w .overstepped)) in
     λ i. record { step = x .step; nx = x .nx; choice = x .choice; directions = w .directions; differing = x .differing; fault = fault i; rows = rows i; summary = (c .of .ensures ∙ ap summaryOf rows) i }

@@ -20,11 +20,11 @@ enum-told c = search needs
 enum-known-self : tie.Need-enum-known-self
 enum-known-self c = search needs
 
-cycles-requires : tie.Need-cycles-requires
-cycles-requires c κs = search needs
+number-requires : tie.Need-number-requires
+number-requires c κs = search needs
 
 cast-result : tie.Need-cast-result
-cast-result c = search needs
+cast-result c = let d = now (c .before .before .before .before .args .values) in record { sfits = omega (arith, c .number .ensures, number-most d 69) }
 
 ahead-requires : tie.Need-ahead-requires
 ahead-requires c κs = search needs
@@ -38,8 +38,8 @@ returns-2 c = let s = c .before .before .before .before .before .before .args in
     let g : SFits w32 (c .before .before .before .before .self .given .0 .0) = search needs in
     let h : SFits w64 (c .ahead .result) = search needs in
     let d = now (s .values) in
-    let tolerance : toZ w64 (c .before .before .cycles .result) ≡ pos (numberOf d 69) =
-    toZ-pos w64 (omega (arith, c .before .before .cycles .ensures, number-most d 69)) ∙ ap pos (c .before .before .cycles .ensures) in
+    let tolerance : toZ w64 (c .before .before .number .result) ≡ pos (numberOf d 69) =
+    toZ-pos w64 (omega (arith, c .before .before .number .ensures, number-most d 69)) ∙ ap pos (c .before .before .number .ensures) in
     let far : toZ w64 (ofZ w64 (c .ahead .result)) ≡ ahead (s .sign) (c .before .before .before .before .self .given .0 .0) (s .reading .position) = toZ-ofZ h ∙ c .ahead .ensures ∙ simp (toZ-ofZ f, toZ-ofZ g) in
     (λ i. ltZ (tolerance i) (far i)) ∙ simp (c .before .before .before .before .self .given .1)
 
@@ -49,7 +49,7 @@ beyond-spec =
     (tie.spec
     enum-told
     enum-known-self
-    cycles-requires
+    number-requires
     cast-result
     ahead-requires
     returns

@@ -7,7 +7,7 @@ use mir.Val.{SFits}
 use mir.Facts.{toZ-ofZ}
 use borrow.Author.Tests.{lt-ltb, le-ltb}
 use Rattle.machine_data.specs.Data.{numberOf}
-use Rattle.direction.specs.declared.Watch.the-variants.{From}
+use Rattle.direction.specs.declared.Watch.the-variants.{On}
 use borrow.Author.Needs.{needs}
 use Rattle.direction.proofs.Watch.next.Statement.{statement}
 use Rattle.direction.proofs.Watch.next.Tie as tie
@@ -38,7 +38,7 @@ returns-3 c = let s = c .before .before .before .before .args in
     let f : SFits w32 (s .reading .position) = search needs in
     let g : SFits w32 (c .before .before .self .given .0 .0) = search needs in
     let h : SFits w32 (c .furthest .result) = search needs in
-    simp (toZ-ofZ h) (simp (c .before .before .self .given .1) (ap From (c .furthest .ensures ∙ simp (toZ-ofZ g))))
+    simp (toZ-ofZ h) (simp (c .before .before .self .given .1) (ap On (c .furthest .ensures ∙ simp (toZ-ofZ g))))
 
 pub next-spec : {M : Type 1} → statement M
 next-spec =

@@ -46,18 +46,18 @@ usableNext m s g f clears strongest =
 abbrev pub clearsBy : Given → Summary → Bool
 clearsBy g x = g .acknowledged && not (x .fresh)
 
--- the state after a usable cycle
-abbrev pub nextBy : MachineData → State → Given → Findings → State
-nextBy m s g f = usableNext m s g f (clearsBy g (f .summary)) (f .summary .strongest)
+-- the state after a usable cycle, by what step 5 asks of its causes
+abbrev pub nextBy : MachineData → State → Given → Findings → Summary → State
+nextBy m s g f x = usableNext m s g f (clearsBy g x) (x .strongest)
 
 -- the word of a state, and of n<nx as the cycle shows it
 abbrev pub shownWord : List ℤ → State → Bool → ℕ
 shownWord d s nx = wordBy d (s .kept .choice .effective) (s .stop) (s .kept .fault .on) (s .kept .cams) nx
 
 -- state and word of a usable cycle
-abbrev pub advancedBy : MachineData → State → Given → Findings → Advanced
-advancedBy m s g f =
-    record { state = nextBy m s g f; word = shownWord (m .values) (nextBy m s g f) (nextBy m s g f .kept .nx .on) }
+abbrev pub advancedBy : MachineData → State → Given → Findings → Summary → Advanced
+advancedBy m s g f x =
+    record { state = nextBy m s g f x; word = shownWord (m .values) (nextBy m s g f x) (nextBy m s g f x .kept .nx .on) }
 
 -- of one that cannot be used; "n<nx shows 0 in an unusable cycle"
 abbrev pub advancedUnusable : MachineData → State → Advanced

@@ -29,15 +29,21 @@ fn clears(given: Given, summary: Summary) -> bool
 }
 
 // Steps 5 and 6 of a usable cycle.
-fn usable(values: &Values, count: usize, state: State, given: Given, findings: Findings) -> State
-    ensures { λ r. ⌜ r ≡ nextBy (lent (now (values .entry)) count) state given findings ⌝ }
+fn usable(
+    values: &Values,
+    count: usize,
+    state: State,
+    given: Given,
+    findings: Findings,
+    summary: Summary,
+) -> State
+    ensures { λ r. ⌜ r ≡ nextBy (lent (now (values .entry)) count) state given findings summary ⌝ }
 {
     let reading = given.reading;
     let kept = state.kept;
     let stop = state.stop;
     let choice = findings.choice;
     let fault = findings.fault;
-    let summary = findings.summary;
     let nx = findings.nx;
     let directions = findings.directions;
     let strongest = summary.strongest;
@@ -83,17 +89,18 @@ fn word(values: &Values, state: State, nx: bool) -> u32
     channel_word::channel_word(values, effective, stop, fault.on, kept.cams, nx)
 }
 
-// A cycle by what steps 2 to 4 found.
+// A cycle by what steps 2 to 4 found, and what step 5 asks of its causes.
 pub fn found(
     values: &Values,
     count: usize,
     state: State,
     given: Given,
     findings: Findings,
+    summary: Summary,
 ) -> Advanced
-    ensures { λ r. ⌜ r ≡ advancedBy (lent (now (values .entry)) count) state given findings ⌝ }
+    ensures { λ r. ⌜ r ≡ advancedBy (lent (now (values .entry)) count) state given findings summary ⌝ }
 {
-    let after = usable(values, count, state, given, findings);
+    let after = usable(values, count, state, given, findings, summary);
     let kept = after.kept;
     let nx = kept.nx;
     Advanced {

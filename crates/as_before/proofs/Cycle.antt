@@ -10,7 +10,7 @@ use Rattle.speed.specs.declared.Step.{Step}
 use Rattle.nx_signal.specs.Signal.{signalNext}
 use Rattle.comparison.specs.Comparison.{faultNext}
 use Rattle.causes.specs.declared.Cause.{Cause}
-use Rattle.causes.specs.Causes.{unusableTable, summaryOf, strongestOf, freshOf}
+use Rattle.causes.specs.Causes.{unusableTable, strongestOf, freshOf}
 use Rattle.state.specs.declared.State.{State}
 use Rattle.state.specs.declared.Given.{Given}
 use Rattle.judge.specs.declared.Findings.{Findings}
@@ -110,7 +110,7 @@ module _ (p q : Rules) (m : MachineData) (s : State) (g : Given) where
     usable-next-same u =
         λ i.
         let found : Findings =
-        record { step = step-same i; nx = signalNext (m .values) (step-same i) (s .kept .nx); choice = choiceIn m s g; directions = same .watched u i .directions; differing = differingIn s g; fault = fault-same i; rows = usableRowsUnder p m s g; summary = summaryOf (usableRowsUnder p m s g) } in
+        record { step = step-same i; nx = signalNext (m .values) (step-same i) (s .kept .nx); choice = choiceIn m s g; directions = same .watched u i .directions; differing = differingIn s g; fault = fault-same i; rows = usableRowsUnder p m s g } in
         let n = usableNext m s g found (g .acknowledged && not (fresh-same i)) (strongest-same i) in
         record { k = same .rise i; kept = n .kept; stop = n .stop; previous = n .previous }
 

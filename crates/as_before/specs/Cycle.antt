@@ -15,7 +15,7 @@ use Rattle.direction.specs.declared.Watched.{Watched}
 use Rattle.comparison.specs.declared.Fault.{Fault}
 use Rattle.comparison.specs.Comparison.{positionDiffers, inputsDiffer, faultNext}
 use Rattle.causes.specs.declared.Cause.{Cause}
-use Rattle.causes.specs.Causes.{cause, summaryOf, strongestOf, freshOf}
+use Rattle.causes.specs.Causes.{cause, strongestOf, freshOf}
 use Rattle.state.specs.declared.State.{State}
 use Rattle.state.specs.declared.Given.{Given}
 use Rattle.judge.specs.declared.Differences.{Differences}
@@ -69,7 +69,6 @@ module _ (rules : Rules) (m : MachineData) (s : State) (g : Given) where
         differing = differingIn s g;
         fault = faultUnder;
         rows = usableRowsUnder;
-        summary = summaryOf usableRowsUnder;
       }
 
   -- "A cycle clears if it is acknowledged and has no fresh cause"

@@ -10,9 +10,9 @@ use Rattle.inputs.specs.declared.Reading.{Reading}
 use Rattle.inputs.specs.Usable.{usableOf}
 use Rattle.direction.specs.declared.Directions.{Directions}
 use Rattle.direction.specs.Direction.{directionsNext}
-use Rattle.causes.specs.Causes.{unusableTable}
+use Rattle.causes.specs.Causes.{unusableTable, summaryOf}
 use Rattle.codes.specs.declared.Causes.{Causes}
-use Rattle.codes.specs.Codes.{causesOf, causesIf}
+use Rattle.codes.specs.Codes.{causesOf}
 use Rattle.report.specs.declared.Report.{Report}
 use Rattle.report.specs.Report.{reportOf}
 use Rattle.list.specs.Reading.{readList}
@@ -105,7 +105,7 @@ leaving guarded count a causes w = record { word = a .word; written = writingOve
 unfoldable pub usableLeaves : MachineData → State → Given → List ℕ → WayLeft
 usableLeaves m s g w =
     let f = findingsOf m s g in
-    leaving (functionOf (m .values) 5) (m .count) (advancedBy m s g f) (causesIf (f .summary .any) (f .rows)) w
+    leaving (functionOf (m .values) 5) (m .count) (advancedBy m s g f (summaryOf (f .rows))) (causesOf (f .rows)) w
 
 -- and where they are not
 unfoldable pub unusableLeaves : MachineData → State → List ℕ → WayLeft

@@ -114,9 +114,9 @@ fn usable_cycle(
     let begun = judge::begin(values, before, given);
     let findings = judge::finish(values, count, before, given, begun, watched);
     let rows = findings.rows;
-    let summary = findings.summary;
-    let advanced = advance::found(values, count, before, given, findings);
-    codes::list_causes(rows, summary.any, causes);
+    let listed = codes::list_causes(rows, causes);
+    let summary = listed.summary;
+    let advanced = advance::found(values, count, before, given, findings, summary);
     let after = advanced.state;
     image::put_front(count, after, state);
     advanced.word

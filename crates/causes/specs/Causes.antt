@@ -52,19 +52,20 @@ standsOr c any = cond (c .stands) true any
 abbrev pub anyStands : List Cause → Bool
 anyStands rows = overRows standsOr rows false
 
--- what step 5 asks of a table, and whether any row stands
+-- what step 5 asks of a table
 unfoldable pub summaryOf : List Cause → Summary
-summaryOf rows = record { strongest = strongestOf rows; fresh = freshOf rows; any = anyStands rows }
+summaryOf rows = record { strongest = strongestOf rows; fresh = freshOf rows }
+
+-- that of no cause
+abbrev pub noSummary : Summary
+noSummary = record { strongest = None; fresh = false }
 
 -- ---- of the private functions: the same, one row behind the other
-
-abbrev pub noSummary : Summary
-noSummary = record { strongest = None; fresh = false; any = false }
 
 unfoldable pub addTo : Cause → Summary → Summary
 addTo c s =
     cond (c .stands)
-    (record { strongest = strongerOf (s .strongest) (c .rank); fresh = s .fresh || not (eqb (c .code) 13); any = true })
+    (record { strongest = strongerOf (s .strongest) (c .rank); fresh = s .fresh || not (eqb (c .code) 13) })
     s
 
 abbrev pub summedFrom : List Cause → Summary → Summary

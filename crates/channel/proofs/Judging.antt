@@ -4,24 +4,23 @@ use mathlib.Core.Bool.{true, false}
 use Rattle.machine_data.specs.declared.MachineData.{MachineData}
 use Rattle.inputs.specs.Usable.{usableOf}
 use Rattle.causes.specs.Causes.{unusableTable, summaryOf}
-use Rattle.codes.specs.Codes.{causesOf, causesIf}
-use Rattle.codes.proofs.Few.{causes-if}
+use Rattle.codes.specs.Codes.{causesOf}
 use Rattle.state.specs.declared.State.{State}
 use Rattle.state.specs.declared.Given.{Given}
-use Rattle.judge.specs.Causes.{usableRows, rowsOf, findingsOf}
+use Rattle.judge.specs.Causes.{rowsOf, findingsOf}
 use Rattle.advance.specs.After.{advancedBy, advancedUnusable}
 use Rattle.channel.specs.Cycle.{strongestIn, clearsIn, next}
 use Rattle.channel.specs.Word.{word}
 use Rattle.channel.specs.Outcome.{causesIn, advanced}
 
 module _ (m : MachineData) (s : State) (g : Given) where
-  pub usable-cycle : usableOf m (g .reading) ≡ true → advancedBy m s g (findingsOf m s g) ≡ advanced m s g
+  pub usable-cycle : usableOf m (g .reading) ≡ true → advancedBy m s g (findingsOf m s g) (summaryOf (findingsOf m s g .rows)) ≡ advanced m s g
   unfolding rowsOf strongestIn clearsIn next word summaryOf
   usable-cycle u = simp u
 
-  pub usable-causes : usableOf m (g .reading) ≡ true → causesIf (findingsOf m s g .summary .any) (findingsOf m s g .rows) ≡ causesIn m s g
-  unfolding rowsOf causesIn summaryOf
-  usable-causes u = simp u (causes-if (usableRows m s g))
+  pub usable-causes : usableOf m (g .reading) ≡ true → causesOf (findingsOf m s g .rows) ≡ causesIn m s g
+  unfolding rowsOf causesIn
+  usable-causes u = simp u
 
   pub unusable-cycle : usableOf m (g .reading) ≡ false → advancedUnusable m s ≡ advanced m s g
   unfolding next word

@@ -4,6 +4,8 @@ ghost use Rattle.machine_data.specs.Data.{lent};
 ghost use Rattle.channel.specs.Cycle.{freshChannel, withState};
 ghost use Rattle.channel.specs.Outcome.{advanced, cycled, outcomeOf};
 use advance::Advanced;
+use causes::Summary;
+use codes::CODES;
 use codes::Causes;
 use machine_data::MachineData;
 use machine_data::Values;
@@ -36,7 +38,9 @@ pub fn advance(values: &Values, count: usize, state: State, given: Given) -> Adv
 {
     if inputs::usable(values, count, given.reading) {
         let findings = judge::judge(values, count, state, given);
-        advance::found(values, count, state, given, findings)
+        let rows = findings.rows;
+        let summary = Summary::of(rows);
+        advance::found(values, count, state, given, findings, summary)
     } else {
         advance::skipped(values, count, state)
     }
@@ -67,13 +71,16 @@ fn cycle_on(values: &Values, count: usize, state: State, given: Given) -> Cycled
     if inputs::usable(values, count, given.reading) {
         let findings = judge::judge(values, count, state, given);
         let rows = findings.rows;
-        let summary = findings.summary;
-        let advanced = advance::found(values, count, state, given, findings);
+        let mut codes = [0u8; CODES];
+        let listed = codes::list_causes(rows, &mut codes);
+        let summary = listed.summary;
+        let advanced = advance::found(values, count, state, given, findings, summary);
         let after = advanced.state;
+        let count = listed.count;
         Cycled {
             state: after,
             word: advanced.word,
-            causes: Causes::of(rows, summary.any),
+            causes: Causes { codes, count },
         }
     } else {
         let idle = advance::skipped(values, count, state);

@@ -5,14 +5,14 @@ use mathlib.Core.Path.{_≡_, refl, ap}
 use mathlib.Core.Bool.{Bool, true, false, _&&_, true≢false}
 use mathlib.Core.List.{List, [], _∷_}
 use lib.Dec.{eqb}
-use lib.ListN.{length}
+use lib.ListN.{length, replicate}
 use native.Mathlib.Omega.{arith}
 use borrow.Author.Tests.{eqb-true}
 use Rattle.bits.specs.Bits.{flag}
 use Rattle.causes.specs.declared.Cause.{Cause}
 use Rattle.causes.specs.Causes.{overRows, standsOr, anyStands}
 use Rattle.codes.specs.declared.Causes.{Causes}
-use Rattle.codes.specs.Codes.{ofRank, below, inOrder, padded, causesAs, causesOf, causesIf}
+use Rattle.codes.specs.Codes.{codesMost, ofRank, below, inOrder, padded, causesAs, causesOf}
 use Rattle.codes.specs.Lists.{wanted, Rising}
 use Rattle.codes.proofs.Ranks.{many-more, flag-most, rows-most}
 
@@ -50,13 +50,9 @@ empty (x ∷ xs) h = absurd (some h)
     some : length (x ∷ xs) ≡ 0 → ⊥
     some e = omega (arith, e)
 
-pub causes-if : (rows : List Cause) → causesIf (anyStands rows) rows ≡ causesOf rows
+pub no-causes : (rows : List Cause) → anyStands rows ≡ false → causesAs (replicate codesMost 0) 0 ≡ causesOf rows
 unfolding causesOf
-causes-if rows = go (anyStands rows) refl
-  where
-    go : (any : Bool) → anyStands rows ≡ any → causesIf any rows ≡ causesOf rows
-    go true q = refl
-    go false q = ap {B = Causes} (λ (xs : List ℕ). causesAs (padded xs) (length xs)) (empty (inOrder rows) (none-stands rows false q .1))
+no-causes rows q = ap {B = Causes} (λ (xs : List ℕ). causesAs (padded xs) (length xs)) (empty (inOrder rows) (none-stands rows false q .1))
 
 -- ---- "each code once"
 

@@ -1,4 +1,5 @@
 pub mod Ranks
+pub mod Told
 pub mod Places
 pub mod Order
 pub mod Only

@@ -1,6 +1,6 @@
 -- Usable inputs: document 01, "Safe inputs and reports", W1 and W6; and the ratio that they pick.
 use Prim.Native.Nat.{ℕ}
-use mathlib.Core.Bool.{Bool, _&&_, _||_}
+use mathlib.Core.Bool.{Bool, cond, _&&_, _||_}
 use mathlib.Core.List.{List}
 use lib.IntN.{ℤ, natAbs}
 use lib.Dec.{leb, eqb}
@@ -25,3 +25,9 @@ usableOf m r = leb (natAbs (r .position)) 100_000_000 && bitsUsable m (r .inputs
 -- W1: "Input bits 8 to 10 pick one of eight ratios"
 abbrev pub ratioIn : List ℤ → ℕ → Ratio
 ratioIn d w = ratioOf d (gearNumber w)
+
+-- ---- of a private function
+
+-- bits 13 and 14, where they must be 0
+abbrev pub directionMask : Bool → ℕ
+directionMask on = cond on 0 24_576

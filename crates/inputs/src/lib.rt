@@ -3,7 +3,7 @@ ghost use mathlib.Core.Path.{_≡_};
 ghost use lib.Dec.{eqb};
 ghost use Rattle.machine_data.specs.Data.{hasRatios, functionOf, lent};
 ghost use Rattle.inputs.specs.Layout.{sbhSgOff, sbhOff, sgNumber, gearNumber, se2Chosen, positiveOnlyOff, negativeOnlyOff, directionBits, externalOff, overrideNumber, spareOf};
-ghost use Rattle.inputs.specs.Usable.{free, bitsUsable, usableOf, ratioIn};
+ghost use Rattle.inputs.specs.Usable.{free, bitsUsable, usableOf, ratioIn, directionMask};
 use machine_data::Ratio;
 use machine_data::Values;
 use machine_data::functions;
@@ -123,15 +123,22 @@ fn gear_usable(count: usize, w: u32) -> bool
     }
 }
 
-// Whether the bits of safe direction may stand as they do: without the function both are 0.
+// The bits of safe direction, where they must be 0: without the function.
+fn direction_mask(values: &Values) -> u32
+    ensures { λ r. ⌜ r ≡ directionMask (functionOf (now (values .entry)) 5) ⌝ }
+{
+    if machine_data::function(values, functions::DIRECTION) {
+        0
+    } else {
+        24576
+    }
+}
+
+// Whether the bits of safe direction may stand as they do. The mask is the same in all cycles of a log: there it is worked out once.
 fn direction_usable(values: &Values, w: u32) -> bool
     ensures { λ r. ⌜ r ≡ free (functionOf (now (values .entry)) 5) (directionBits w) ⌝ }
 {
-    if machine_data::function(values, functions::DIRECTION) {
-        true
-    } else {
-        w / 8192 % 4 == 0
-    }
+    w & direction_mask(values) == 0
 }
 
 // Whether all bits of an input word that a list gives no meaning are 0.

@@ -24,7 +24,7 @@ use Rattle.comparison.specs.declared.Fault.{Fault}
 use Rattle.comparison.specs.Comparison.{positionDiffers, runOf, inputsDiffer, faultNext}
 use Rattle.active.specs.Active.{faultStops}
 use Rattle.causes.specs.declared.Cause.{Cause}
-use Rattle.causes.specs.Causes.{cause, unusableTable, summaryOf}
+use Rattle.causes.specs.Causes.{cause, unusableTable}
 use Rattle.state.specs.declared.State.{State}
 use Rattle.state.specs.declared.Given.{Given}
 use Rattle.judge.specs.declared.Begun.{Begun}
@@ -128,7 +128,6 @@ findingsOf m s g =
       differing = differingIn s g;
       fault = faultIn m s g;
       rows = usableRows m s g;
-      summary = summaryOf (usableRows m s g);
     }
 
 -- ---- the same in parts, as the code has them: what needs none of the causes, and the causes by it and by the directions. proofs/Parts.antt puts them together
@@ -158,5 +157,4 @@ findingsBy m s g b w =
       differing = b .differing;
       fault = faultBy m s (differencesBy m s g (b .differing));
       rows = rowsBy m s g b (w .overstepped);
-      summary = summaryOf (rowsBy m s g b (w .overstepped));
     }

@@ -4,7 +4,6 @@ ghost use Rattle.machine_data.specs.Data.{lent};
 ghost use Rattle.judge.specs.Causes.{stepOf, anyDiffers, table, begunOf, findingsBy, findingsOf};
 use causes::Cause;
 use causes::Rows;
-use causes::Summary;
 use comparison::Fault;
 use direction::Directions;
 use direction::Watched;
@@ -20,8 +19,8 @@ use state::Given;
 use state::State;
 use stop::Stop;
 
-// What steps 2 to 4 come to: the step, what this cycle leaves of n<nx, the choice, the directions, the run and F, the causes, and
-// what step 5 asks of them. n<nx stands here, though it is of step 6, so that the step's products, which the causes need too, are worked out once.
+// What steps 2 to 4 come to: the step, what this cycle leaves of n<nx, the choice, the directions, the run and F, and the causes.
+// n<nx stands here, though it is of step 6, so that the step's products, which the causes need too, are worked out once.
 pub struct Findings {
     pub step: Step,
     pub nx: Signal,
@@ -30,7 +29,6 @@ pub struct Findings {
     pub differing: u32,
     pub fault: Fault,
     pub rows: Rows,
-    pub summary: Summary,
 }
 
 // What steps 2 and 3 come to, with n<nx and the run of differing inputs.
@@ -222,7 +220,6 @@ pub fn finish(
         differing: begun.differing,
         fault: after,
         rows,
-        summary: Summary::of(rows),
     }
 }
 

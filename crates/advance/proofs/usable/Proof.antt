@@ -22,7 +22,7 @@ cleared-requires : tie.Need-cleared-requires
 cleared-requires c κs = search needs
 
 returns : tie.Need-returns
-returns c = let fp : SFits w32 (c .before .before .before .before .before .before .before .before .before .before .before .before .before .args .given .reading .position) = search needs in
+returns c = let fp : SFits w32 (c .before .before .before .before .before .before .before .before .before .before .before .before .args .given .reading .position) = search needs in
     simp (toZ-ofZ fp) (simp (c .before .before .next2 .ensures, c .before .cleared .ensures, c .before .before .before .before .next .ensures, c .before .before .before .next-k .ensures, c .before .before .before .before .before .clears .ensures))
 
 pub usable-spec : {M : Type 1} → statement M

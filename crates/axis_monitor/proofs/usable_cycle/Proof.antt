@@ -3,7 +3,8 @@ use mathlib.Core.Path.{_≡_, ap, _∙_}
 use denote.Ref.{now}
 use borrow.Author.Needs.{needs}
 use Rattle.machine_data.specs.Data.{lent, functionOf}
-use Rattle.codes.specs.Codes.{causesIf}
+use Rattle.causes.specs.Causes.{summaryOf}
+use Rattle.codes.specs.Codes.{causesOf}
 use Rattle.judge.specs.declared.Findings.{Findings}
 use Rattle.judge.specs.Causes.{findingsBy, findingsOf}
 use Rattle.judge.proofs.Parts.{in-parts}
@@ -23,11 +24,11 @@ begin-requires c κs = search needs
 finish-requires : tie.Need-finish-requires
 finish-requires c κs = search needs
 
-found-requires : tie.Need-found-requires
-found-requires c κs = search needs
-
 list-causes-requires : tie.Need-list-causes-requires
 list-causes-requires c κs = search needs
+
+found-requires : tie.Need-found-requires
+found-requires c κs = search needs
 
 put-front-requires : tie.Need-put-front-requires
 put-front-requires c κs = search needs
@@ -40,12 +41,16 @@ returns c =
     let m = lent d (a .count) in
     let w = now (a .state) in
     let guard = c .before .before .before .before .before .before .before .before .before .before .guard .ensures in
-    let judged : c .before .before .before .before .before .before .before .before .finish .result ≡ findingsOf m (a .before) (a .given) = c .before .before .before .before .before .before .before .before .finish .ensures ∙ (λ i. findingsBy m (a .before) (a .given) (c .before .before .before .before .before .before .before .before .before .begin .ensures i) (guard .0 i)) ∙ in-parts m (a .before) (a .given) in
-    let found : c .before .before .before .before .before .found .result ≡ advancedBy m (a .before) (a .given) (findingsOf m (a .before) (a .given)) = c .before .before .before .before .before .found .ensures ∙ ap (advancedBy m (a .before) (a .given)) judged in
+    let finish = c .before .before .before .before .before .before .before .before .finish in
+    let listed = c .before .before .before .before .before .list-causes .ensures in
+    let judged : finish .result ≡ findingsOf m (a .before) (a .given) =
+    finish .ensures ∙ (λ i. findingsBy m (a .before) (a .given) (c .before .before .before .before .before .before .before .before .before .begin .ensures i) (guard .0 i)) ∙ in-parts m (a .before) (a .given) in
+    let found : c .before .before .before .found .result ≡ advancedBy m (a .before) (a .given) (findingsOf m (a .before) (a .given)) (summaryOf (findingsOf m (a .before) (a .given) .rows)) =
+    c .before .before .before .found .ensures ∙ ap (advancedBy m (a .before) (a .given) (finish .result)) (listed .1)
+    ∙ ap (λ (f : Findings). advancedBy m (a .before) (a .given) f (summaryOf (f .rows))) judged in
     let directions = ap (λ (x : Advanced). x .state .kept .directions) found in
-    way-left (functionOf d 5) (a .count) w found
-    (c .before .before .before .list-causes .ensures ∙ ap (λ (f : Findings). causesIf (f .summary .any) (f .rows)) judged)
-    (guard .1) (guarded-tail d (a .given .reading) (a .before .kept .directions) w directions) (c .put-front .ensures)
+    way-left (functionOf d 5) (a .count) w found (listed .0 ∙ ap (λ (f : Findings). causesOf (f .rows)) judged) (guard .1)
+    (guarded-tail d (a .given .reading) (a .before .kept .directions) w directions) (c .put-front .ensures)
 
 pub usable-cycle-spec : {M : Type 1} → statement M
 usable-cycle-spec =
@@ -54,7 +59,7 @@ usable-cycle-spec =
     guard-requires
     begin-requires
     finish-requires
-    found-requires
     list-causes-requires
+    found-requires
     put-front-requires
     returns)

@@ -4,7 +4,8 @@ use mathlib.Core.Bool.{true, false}
 use denote.Ref.{now}
 use Rattle.machine_data.specs.Data.{lent}
 use Rattle.inputs.specs.Usable.{usableOf}
-use Rattle.codes.specs.Codes.{causesIf}
+use Rattle.causes.specs.Causes.{summaryOf}
+use Rattle.codes.specs.Codes.{causesOf}
 use Rattle.judge.specs.declared.Findings.{Findings}
 use Rattle.advance.specs.After.{advancedBy}
 use Rattle.channel.specs.Outcome.{causesIn, advanced}
@@ -19,11 +20,11 @@ usable-requires c κs = search needs
 judge-requires : tie.Need-judge-requires
 judge-requires c κs = search needs
 
+list-causes-requires : tie.Need-list-causes-requires
+list-causes-requires c κs = search needs
+
 found-requires : tie.Need-found-requires
 found-requires c κs = search needs
-
-of-requires : tie.Need-of-requires
-of-requires c κs = search needs
 
 skipped-requires : tie.Need-skipped-requires
 skipped-requires c κs = search needs
@@ -32,11 +33,17 @@ unusable-requires : tie.Need-unusable-requires
 unusable-requires c κs = search needs
 
 returns : tie.Need-returns
-returns c = let a = c .before .before .before .before .before .before .before .before .args in let m = lent (now (a .values)) (a .count) in let s = a .state in
-    let u : usableOf m (a .given .reading) ≡ true = sym (c .before .before .before .before .before .before .before .usable .ensures) ∙ c .before .before .before .before .before .before .if1 .taken in
-    let judged = c .before .before .before .before .before .judge .ensures in
-    let went : c .before .before .found .result ≡ advanced m s (a .given) = c .before .before .found .ensures ∙ ap (advancedBy m s (a .given)) judged ∙ usable-cycle m s (a .given) u in
-    let codes : c .of .result ≡ causesIn m s (a .given) = c .of .ensures ∙ ap (λ (f : Findings). causesIf (f .summary .any) (f .rows)) judged ∙ usable-causes m s (a .given) u in
+returns c =
+    let a = c .before .before .before .before .before .before .before .before .before .args in
+    let m = lent (now (a .values)) (a .count) in
+    let s = a .state in
+    let u : usableOf m (a .given .reading) ≡ true = sym (c .before .before .before .before .before .before .before .before .usable .ensures) ∙ c .before .before .before .before .before .before .before .if1 .taken in
+    let judged = c .before .before .before .before .before .before .judge in
+    let listed = c .before .before .before .list-causes .ensures in
+    let went : c .before .found .result ≡ advanced m s (a .given) =
+    c .before .found .ensures ∙ ap (advancedBy m s (a .given) (judged .result)) (listed .1)
+    ∙ ap (λ (f : Findings). advancedBy m s (a .given) f (summaryOf (f .rows))) (judged .ensures) ∙ usable-cycle m s (a .given) u in
+    let codes = listed .0 ∙ ap (λ (f : Findings). causesOf (f .rows)) (judged .ensures) ∙ usable-causes m s (a .given) u in
     λ i. record { state = went i .state; word = went i .word; causes = codes i }
 
 returns-2 : tie.Need-returns-2
@@ -52,8 +59,8 @@ cycle-on-spec =
     (tie.spec
     usable-requires
     judge-requires
+    list-causes-requires
     found-requires
-    of-requires
     skipped-requires
     unusable-requires
     returns

@@ -3,7 +3,6 @@ use mathlib.Core.Path.{_≡_, ap, _∙_}
 use mathlib.Core.Bool.{Bool}
 use denote.Ref.{now}
 use Rattle.machine_data.specs.Data.{lent}
-use Rattle.causes.specs.Causes.{summaryOf}
 use Rattle.comparison.specs.Comparison.{faultNext}
 use Rattle.active.specs.Active.{faultStops}
 use Rattle.judge.specs.declared.Differences.{Differences}
@@ -33,28 +32,25 @@ fault-stops-requires c κs = search needs
 rows-requires : tie.Need-rows-requires
 rows-requires c κs = search needs
 
-of-requires : tie.Need-of-requires
-of-requires c κs = search needs
-
 abbrev differences : Bool → Bool → Bool → Differences
 differences position inputs datum = record { position = position; inputs = inputs; datum = datum }
 
 -- each part is the definition's of the parts before it
 returns : tie.Need-returns
 returns c =
-    let a = c .before .before .before .before .before .before .before .before .before .before .before .before .before .before .before .before .args in
+    let a = c .before .before .before .before .before .before .before .before .before .before .before .before .before .before .before .args in
     let d = now (a .values) in
     let m = lent d (a .count) in
     let s = a .state in
     let g = a .given in
     let x = a .begun in
     let w = a .watched in
-    let differs : differences (c .before .before .before .before .before .before .before .position-differs .result) (c .before .before .before .before .before .before .inputs-differ .result) (c .before .before .before .before .before .datum-differs .result) ≡ differencesBy m s g (x .differing) =
-    λ i. differences (c .before .before .before .before .before .before .before .position-differs .ensures i) (c .before .before .before .before .before .before .inputs-differ .ensures i) (c .before .before .before .before .before .datum-differs .ensures i) in
-    let fault : c .before .before .before .next .result ≡ faultBy m s (differencesBy m s g (x .differing)) = c .before .before .before .next .ensures ∙ ap (λ (b : Bool). faultNext d b (s .kept .fault)) (c .before .before .before .before .any .ensures ∙ ap anyDiffers differs) in
-    let stops = c .before .before .fault-stops .ensures ∙ (λ i. faultStops d (x .choice .effective) (fault i)) in
-    let rows : c .before .rows .result ≡ rowsBy m s g x (w .overstepped) = c .before .rows .ensures ∙ (λ i. table d (s .stop) (g .reading) (x .choice) (x .step) (differs i) (stops i) (w .overstepped)) in
-    λ i. record { step = x .step; nx = x .nx; choice = x .choice; directions = w .directions; differing = x .differing; fault = fault i; rows = rows i; summary = (c .of .ensures ∙ ap summaryOf rows) i }
+    let differs : differences (c .before .before .before .before .before .before .position-differs .result) (c .before .before .before .before .before .inputs-differ .result) (c .before .before .before .before .datum-differs .result) ≡ differencesBy m s g (x .differing) =
+    λ i. differences (c .before .before .before .before .before .before .position-differs .ensures i) (c .before .before .before .before .before .inputs-differ .ensures i) (c .before .before .before .before .datum-differs .ensures i) in
+    let fault : c .before .before .next .result ≡ faultBy m s (differencesBy m s g (x .differing)) = c .before .before .next .ensures ∙ ap (λ (b : Bool). faultNext d b (s .kept .fault)) (c .before .before .before .any .ensures ∙ ap anyDiffers differs) in
+    let stops = c .before .fault-stops .ensures ∙ (λ i. faultStops d (x .choice .effective) (fault i)) in
+    let rows : c .rows .result ≡ rowsBy m s g x (w .overstepped) = c .rows .ensures ∙ (λ i. table d (s .stop) (g .reading) (x .choice) (x .step) (differs i) (stops i) (w .overstepped)) in
+    λ i. record { step = x .step; nx = x .nx; choice = x .choice; directions = w .directions; differing = x .differing; fault = fault i; rows = rows i }
 
 pub finish-spec : {M : Type 1} → statement M
 finish-spec =
@@ -67,5 +63,4 @@ finish-spec =
     next-requires
     fault-stops-requires
     rows-requires
-    of-requires
     returns)

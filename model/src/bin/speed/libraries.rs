@@ -3,7 +3,7 @@
 use model::channel::image::Image;
 use model::log::Side;
 use model::machine_data::COUNT;
-use model::proved::{archive, Channel};
+use model::proved::{self, archive, Channel};
 
 type RunKit = unsafe extern "C" fn(*const u32, usize, *mut u32, usize, *mut [u64; 3]) -> usize;
 
@@ -36,12 +36,16 @@ pub fn before() -> Result<Option<Library>, String> {
     Ok(None)
 }
 
-/// The earlier ones. Only where the interface is the same are the same arrays lent to both.
+/// The first interface whose arrays begin all later ones': what is lent to a library of today can be lent to it, too.
+#[cfg(feature = "before")]
+const BEGINS_LATER_ONES: u32 = 5;
+
+/// The earlier ones.
 #[cfg(feature = "before")]
 pub fn before() -> Result<Option<Library>, String> {
     // SAFETY: nothing is lent.
     let interface = unsafe { earlier::before_monitor_interface() };
-    match interface == model::proved::interface() {
+    match (BEGINS_LATER_ONES..=proved::interface()).contains(&interface) {
         true => Ok(Some(Library {
             run_kit: earlier::before_monitor_run_kit,
             cycle: earlier::before_monitor_cycle,
@@ -85,19 +89,30 @@ impl Library {
         unsafe { (self.run_kit)(words.as_ptr(), words.len(), out, room, &mut told) }
     }
 
-    /// The word of a channel's cycle.
+    /// A channel's cycle.
     pub fn cycle(
         &self,
         channel: &mut Channel,
         given: Side,
         acknowledged: bool,
         report: &[u32; 4],
-    ) -> u32 {
+    ) -> proved::Cycle {
         let Channel { data, state } = channel;
         let Side { position, inputs } = given;
         let acknowledged = acknowledged.into();
-        let codes = &mut [0; 13];
+        let mut codes = [0; 13];
         // SAFETY: all are lent for the call, and what is written to nobody else.
-        unsafe { (self.cycle)(data, state, position, inputs, acknowledged, report, codes) }
+        let word = unsafe {
+            (self.cycle)(
+                data,
+                state,
+                position,
+                inputs,
+                acknowledged,
+                report,
+                &mut codes,
+            )
+        };
+        proved::Cycle { word, codes }
     }
 }

@@ -8,7 +8,7 @@ pub type Kit = Result<Vec<u8>, String>;
 /// A log's name, and its kit with so many cycles.
 pub type Log = (&'static str, fn(usize) -> Kit);
 
-pub const LOGS: [Log; 10] = [
+pub const LOGS: [Log; 11] = [
     ("quiet SG", |cycles| log(QUIET, cycles)),
     ("gears", |cycles| log(GEARS, cycles)),
     ("n<nx", |cycles| log(NX, cycles)),
@@ -19,6 +19,9 @@ pub const LOGS: [Log; 10] = [
     (ACROSS, |cycles| across(CAMS_CHANCE, cycles)),
     (FAR, |cycles| far(CAMS_CHANCE, cycles)),
     ("by chance", |cycles| Ok(random::kit_of(CHANCE, cycles))),
+    ("by chance, 69 data", |cycles| {
+        Ok(random::kit_of(CHANCE_69, cycles))
+    }),
 ];
 
 pub const ACROSS: &str = "cams, by chance across the edges";
@@ -27,6 +30,9 @@ pub const FAR: &str = "cams, by chance far from the edges";
 
 /// A seed whose kit has every function on, and whose log comes to every rank.
 const CHANCE: u64 = 66_120;
+
+/// One with lists of 69 data and every function on that these have, for libraries from before safe direction.
+const CHANCE_69: u64 = 389_432;
 
 /// That of the cams' logs.
 const CAMS_CHANCE: u64 = 21_242;

@@ -1,15 +1,15 @@
 //! `speed`: what a cycle costs the proved monitor, the model and, where they are linked, the libraries of before, on the same
 //! kits.
 
+mod causes;
 mod libraries;
 mod logs;
 mod turns;
 
 use logs::{assemble, log, Kit, Pattern, GEARS, LISTS, LOGS, QUIET, STOPS};
-use model::channel::image::{self, Lent};
-use model::log::{self, Record, Side};
+use model::log::{self, Record};
 use model::proved::Channel;
-use model::{listing, proved, words, Report};
+use model::{listing, proved, words};
 use std::fmt;
 use std::hint::black_box;
 use std::io::Write;
@@ -65,10 +65,7 @@ fn tables(rounds: usize) -> Result<String, String> {
     text += &format!("The clock takes {} of each of the million.\n", clock());
     text += "\n| Nanoseconds a call, quiet SG | |\n|---|---:|\n";
     text += &Calls::new(QUIET)?.rows_of_calls(rounds);
-    text += "\n| Nanoseconds a cycle with causes, from the same state again and again | Proved | Model | Ratio |\n|---|---:|---:|---:|\n";
-    for (name, codes, pattern) in CAUSES {
-        text += &Again::new(pattern)?.row(name, codes, rounds)?;
-    }
+    text += &causes::table(rounds)?;
     text += &turns::table(rounds)?;
     Ok(text)
 }
@@ -434,138 +431,3 @@ impl Calls {
         [MILLION / 2, MILLION / 1000 * 999, MILLION - 1].map(|place| times[place])
     }
 }
-
-/// A channel's cycle with causes: what it is given, and the channel before it.
-struct Again {
-    side: Side,
-    report: Report,
-    proved: Channel,
-    model: model::Channel,
-}
-
-impl Again {
-    /// Channel A's cycle in the last record of a pattern.
-    fn new(pattern: Pattern) -> Result<Again, String> {
-        let kit = log(pattern, pattern.1.len())?;
-        let kit = listing::accept(&kit).map_err(|refused| format!("{refused:?}"))?;
-        let (mut a, mut b) = (Lent::fresh(*kit.a.data()), Lent::fresh(*kit.b.data()));
-        let (last, before) = kit.records.split_last().ok_or("no record")?;
-        for &record in before {
-            image::both(&mut a, &mut b, record);
-        }
-        Ok(Again {
-            side: last.a,
-            report: b.report(last.b.position, last.b.inputs),
-            proved: Channel {
-                data: *a.data(),
-                state: *a.state(),
-            },
-            model: *a.channel(),
-        })
-    }
-
-    /// The proved monitor's cycle, as often as a log has cycles.
-    fn proved(&self) -> proved::Cycle {
-        let (mut channel, report) = (self.proved, proved::lent(self.report));
-        let mut cycle = || {
-            channel.state = *black_box(&self.proved.state);
-            let Side { position, inputs } = self.side;
-            channel.cycle(position, inputs, 0, black_box(&report))
-        };
-        for _ in 1..Calls::CYCLES {
-            black_box(cycle());
-        }
-        cycle()
-    }
-
-    /// The model's.
-    fn model(&self) -> proved::Cycle {
-        let cycle = || {
-            let mut channel = *black_box(&self.model);
-            let Side { position, inputs } = self.side;
-            let cycle = channel.cycle(position, inputs, false, *black_box(&self.report));
-            black_box(&channel);
-            proved::Cycle {
-                word: cycle.word,
-                codes: cycle.causes.list(),
-            }
-        };
-        for _ in 1..Calls::CYCLES {
-            black_box(cycle());
-        }
-        cycle()
-    }
-
-    fn row(&self, name: &str, codes: usize, rounds: usize) -> Result<String, String> {
-        let loops = [Again::proved, Again::model];
-        // The codes as a set: a library whose order is another one can be timed, too.
-        let [one, other] = loops.map(|call| {
-            let mut cycle = call(self);
-            cycle.codes.sort_unstable();
-            cycle
-        });
-        let stand = one.codes.iter().filter(|&&code| code != 0).count();
-        if one != other || stand != codes {
-            return Err(format!("{name}: the cycles are {one:?} and {other:?}"));
-        }
-        let mut samples = [const { Vec::new() }; 2];
-        for _ in 0..rounds {
-            for (call, samples) in loops.into_iter().zip(&mut samples) {
-                let start = Instant::now();
-                black_box(call(self));
-                samples.push(start.elapsed().as_nanos() as f64 / Calls::CYCLES as f64);
-            }
-        }
-        let [proved, model] = samples.map(Time::of);
-        let ratio = proved.median / model.median;
-        Ok(format!("| {name} | {proved} | {model} | {ratio:.2} |\n"))
-    }
-}
-
-/// A cycle's name, how many codes it gives, and the pattern whose last record it is.
-type Caused = (&'static str, usize, Pattern);
-
-const CAUSES: [Caused; 4] = [
-    ("no code", 0, ("lists A and B\n 0 = 12", &["both 0 off"])),
-    (
-        "one: 3",
-        1,
-        (
-            "lists A and B
-              0 = 12
-              1 = 1
-              3 = 2000",
-            &["both 0 SG1", "both 401 SG1"],
-        ),
-    ),
-    (
-        "three: 13, 10, 12",
-        3,
-        (
-            "list A
-              0 = 12
-              1 = 2
-              32 = 1000
-            list B, else as A
-              0 = 13",
-            &["A 0 off, B 1 off"],
-        ),
-    ),
-    (
-        "eleven: 3 to 13",
-        11,
-        (
-            "list A
-              0 = 12
-              1 = 19
-              2 = 10
-              3 = 2000
-              7 = 4
-              12 = 50
-              15 = 2
-            list B, else as A
-              1 = 18",
-            &["both 0 SG1 stop-E", "A 401 SG1, B 77 SBH"],
-        ),
-    ),
-];

@@ -18,13 +18,13 @@ const CYCLES: usize = 2000;
 const BY_CHANCE: u64 = 32;
 
 #[derive(Clone, Copy)]
-enum Monitor {
+pub enum Monitor {
     Proved(Library),
     Model,
 }
 
 /// All that are linked, by name. The first is the one that the others are compared with.
-fn monitors() -> Result<Vec<(&'static str, Monitor)>, String> {
+pub fn monitors() -> Result<Vec<(&'static str, Monitor)>, String> {
     let mut all = vec![("proved", Monitor::Proved(libraries::NOW))];
     let before = libraries::before()?;
     all.extend(before.map(|library| ("before", Monitor::Proved(library))));
@@ -58,29 +58,52 @@ pub fn table(rounds: usize) -> Result<String, String> {
 }
 
 fn head(monitors: &[(&str, Monitor)]) -> String {
-    let mut names = String::new();
-    for call in ["Log run", "A channel's cycle"] {
-        for (of, (name, _)) in monitors.iter().enumerate() {
-            names += &match of {
-                0 => format!(" {call}, {name} |"),
-                _ => format!(" {name} | ratio |"),
-            };
-        }
-    }
-    let columns = names.matches('|').count();
+    let names = ["Log run", "A channel's cycle"].map(|call| columns(call, monitors));
+    let names = names.concat();
     format!(
         "\n| Least nanoseconds of {CYCLES} cycles, and medians of each turn's ratios |{names}\n|---|{}\n",
-        "---:|".repeat(columns)
+        "---:|".repeat(names.matches('|').count())
     )
 }
 
+/// A call's columns: a time of each monitor, and behind all but the first the ratio of the first to it.
+pub fn columns(call: &str, monitors: &[(&str, Monitor)]) -> String {
+    let names = monitors.iter().enumerate().map(|(of, (name, _))| match of {
+        0 => format!(" {call}, {name} |"),
+        _ => format!(" {name} | ratio |"),
+    });
+    names.collect()
+}
+
+/// What stands in them.
+pub fn cells(samples: &[Vec<f64>]) -> String {
+    let mut cells = String::new();
+    for (of, monitor) in samples.iter().enumerate() {
+        if monitor.is_empty() {
+            cells += " | |";
+            continue;
+        }
+        cells += &format!(" {:.1} |", Time::of(monitor.clone()).least);
+        if of > 0 {
+            cells += &format!(" {:.2} |", ratio(&samples[0], monitor));
+        }
+    }
+    cells
+}
+
 /// What is timed of a log, in the order of the table's columns.
-const CALLS: [fn(&mut Log, Monitor); 2] = [Log::run, Log::channel];
+const CALLS: [fn(&mut Log, Monitor); 2] = [
+    |log, monitor| {
+        black_box(log.run(monitor));
+    },
+    Log::channel,
+];
 
 /// Logs that take turns, and the nanoseconds of a cycle in each turn: by call, then by monitor.
 struct Turns {
     name: &'static str,
-    monitors: Vec<Monitor>,
+    /// An earlier library may refuse a log: then there is none.
+    monitors: Vec<Option<Monitor>>,
     logs: Vec<Log>,
     samples: [Vec<Vec<f64>>; 2],
 }
@@ -91,14 +114,18 @@ impl Turns {
         monitors: &[(&str, Monitor)],
         kits: Vec<Kit>,
     ) -> Result<Turns, String> {
-        let monitors: Vec<Monitor> = monitors.iter().map(|&(_, monitor)| monitor).collect();
         let mut logs = Vec::new();
         for kit in kits {
-            let mut log = Log::new(&kit?)?;
-            if !log.alike(&monitors) {
-                return Err(format!("{name}: the words of the monitors differ"));
-            }
-            logs.push(log);
+            logs.push(Log::new(&kit?)?);
+        }
+        let mut takes = |monitor| logs.iter_mut().all(|log| log.run(monitor) == CYCLES);
+        let monitors: Vec<_> = monitors
+            .iter()
+            .map(|&(_, monitor)| Some(monitor).filter(|&monitor| takes(monitor)))
+            .collect();
+        let taking: Vec<Monitor> = monitors.iter().flatten().copied().collect();
+        if !logs.iter_mut().all(|log| log.alike(&taking)) {
+            return Err(format!("{name}: the words of the monitors differ"));
         }
         Ok(Turns {
             samples: CALLS.map(|_| vec![Vec::new(); monitors.len()]),
@@ -114,24 +141,19 @@ impl Turns {
         for (call, samples) in CALLS.into_iter().zip(&mut self.samples) {
             for of in 0..self.monitors.len() {
                 let of = (of + round) % self.monitors.len();
+                let Some(monitor) = self.monitors[of] else {
+                    continue;
+                };
                 let start = Instant::now();
-                call(&mut self.logs[log], self.monitors[of]);
+                call(&mut self.logs[log], monitor);
                 samples[of].push(start.elapsed().as_nanos() as f64 / CYCLES as f64);
             }
         }
     }
 
     fn row(&self) -> String {
-        let mut row = format!("| {} |", self.name);
-        for samples in &self.samples {
-            for (of, monitor) in samples.iter().enumerate() {
-                row += &format!(" {:.1} |", Time::of(monitor.clone()).least);
-                if of > 0 {
-                    row += &format!(" {:.2} |", ratio(&samples[0], monitor));
-                }
-            }
-        }
-        row + "\n"
+        let cells: String = self.samples.iter().map(|samples| cells(samples)).collect();
+        format!("| {} |{cells}\n", self.name)
     }
 
     /// The ratio of each monitor's times here to those there.
@@ -208,14 +230,13 @@ impl Log {
         })
     }
 
-    /// The whole log.
-    fn run(&mut self, monitor: Monitor) {
+    /// The whole log: how many cycles were run.
+    fn run(&mut self, monitor: Monitor) -> usize {
         let (words, output) = (black_box(&self.words), black_box(&mut self.output));
-        let cycles = match monitor {
+        match monitor {
             Monitor::Proved(library) => library.run_kit(words, output),
             Monitor::Model => listing::run(words, output).unwrap_or(0),
-        };
-        black_box(cycles);
+        }
     }
 
     /// Channel A alone.
@@ -230,7 +251,8 @@ impl Log {
         let mut channel = *black_box(&self.proved);
         let given = self.records.iter().zip(&self.lent_reports);
         for ((record, report), three) in given.zip(self.output.chunks_exact_mut(3)) {
-            three[0] = library.cycle(&mut channel, record.a, record.acknowledged, report);
+            let cycle = library.cycle(&mut channel, record.a, record.acknowledged, report);
+            three[0] = cycle.word;
         }
     }
 

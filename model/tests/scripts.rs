@@ -77,8 +77,24 @@ fn the_paper_s_function_is_the_example_s() {
 
 // ---- that the runner can fail
 
-/// Wrong boards by their numbers; 0 is right.
-struct Wrong<const N: u32>;
+/// The wrong board whose number is [`board`]; 0 is right. A type for each would be compiled for each.
+struct Wrong;
+
+thread_local! {
+    static BOARD: Cell<u32> = const { Cell::new(0) };
+}
+
+fn board() -> u32 {
+    BOARD.get()
+}
+
+/// What the scripts tell of a wrong board.
+fn told_of(board: u32) -> impl Fn(&[Script]) -> Vec<String> {
+    move |scripts| {
+        BOARD.set(board);
+        told::<Wrong>(scripts)
+    }
+}
 
 /// Changes a word of a channel's state.
 fn set(channel: &mut Lent, word: usize, value: u32) {
@@ -94,7 +110,7 @@ fn renew(channel: &mut Lent) {
     *channel = Lent::of(*channel.data(), *new.state());
 }
 
-impl<const N: u32> Board for Wrong<N> {
+impl Board for Wrong {
     type Channel = Lent;
 
     fn none() -> Lent {
@@ -105,7 +121,7 @@ impl<const N: u32> Board for Wrong<N> {
         let before = channel.clone();
         let answer = Model::list(channel, words);
         LAST.set([0; 13]);
-        match N {
+        match board() {
             // A refused list leaves no channel.
             1 if answer.is_err() => *channel = Model::none(),
             // All the words are the list's.
@@ -130,7 +146,7 @@ impl<const N: u32> Board for Wrong<N> {
 
     fn report(channel: &Lent, position: i32, inputs: u32) -> [u32; 4] {
         let mut report = Model::report(channel, position, inputs);
-        match N {
+        match board() {
             // Datum 0, the inputs that are used, a position of 28 bits.
             3 => report[2] = channel.data()[0] as u32,
             4 => report[1] &= 0xf03c_101b,
@@ -155,12 +171,12 @@ impl<const N: u32> Board for Wrong<N> {
         let before = channel.clone();
         let (old, mut report) = (*before.state(), *report);
         let far = (report[0] as i32).abs_diff(position) > i32::MAX as u32;
-        let acknowledged = match N {
+        let acknowledged = match board() {
             // By bit 0.
             6 => acknowledged & 1,
             _ => acknowledged,
         };
-        match N {
+        match board() {
             // Heads, or the bits of a gear, are not compared; a head by its lowest 8 bits.
             42 => report[3] = old[word::COUNT],
             43 => report[3] = old[word::COUNT] & !0xff | report[3] & 0xff,
@@ -168,13 +184,13 @@ impl<const N: u32> Board for Wrong<N> {
             _ => (),
         }
         // A distance that 32 bits do not hold with a sign is none.
-        if N == 29 && far {
+        if board() == 29 && far {
             report[0] = position as u32;
         }
         let mut cycle = Model::cycle(channel, position, inputs, acknowledged, &report);
         let unusable = cycle.codes[0] == 1;
         let stand = cycle.codes.iter().filter(|&&code| code != 0).count();
-        match N {
+        match board() {
             // The first cause alone.
             7 => cycle.codes[1..].fill(0),
             // None where the rank is 5 already.
@@ -210,13 +226,13 @@ impl<const N: u32> Board for Wrong<N> {
             _ => (),
         }
         if !unusable && old[word::F] == 1 {
-            by_what_is_active::<N>(channel, &old, &mut cycle);
+            by_what_is_active(channel, &old, &mut cycle);
         }
-        by_nx::<N>(channel, &old, unusable);
-        by_direction::<N>(channel, &old, unusable, inputs, position);
+        by_nx(channel, &old, unusable);
+        by_direction(channel, &old, unusable, inputs, position);
         let off = !unusable && channel.data()[1] & 32 == 0;
         let head = channel.channel().data().head();
-        match N {
+        match board() {
             // 14 is left out: beside another cause, under STOP A, acknowledged; or listed for each direction; or beside 1.
             142 if stand > 1 => leave_code_out(&mut cycle, 14),
             143 if old[word::STOP] == 3 => leave_code_out(&mut cycle, 14),
@@ -239,9 +255,9 @@ impl<const N: u32> Board for Wrong<N> {
             148 => other_code(&mut cycle, 14, 4),
             _ => (),
         }
-        if let 0 | 77..=138 | 149..=161 = N {
+        if let 0 | 77..=138 | 149..=161 = board() {
             let seen = Seen::of(channel, &old, inputs, acknowledged, &cycle);
-            cycle.codes = in_order::<N>(&seen);
+            cycle.codes = in_order(&seen);
         }
         cycle
     }
@@ -255,7 +271,7 @@ impl<const N: u32> Board for Wrong<N> {
     }
 
     fn device(a: u32, b: u32) -> u32 {
-        match N {
+        match board() {
             13 => Model::device(a & !4, b & !4),
             14 => Model::device(a & !(u32::from(a >> 25 & 3 == 3) << 25), b),
             15 => Model::device(a, b) | a & 0x80,
@@ -271,10 +287,10 @@ impl<const N: u32> Board for Wrong<N> {
     ) -> Result<usize, Refusal> {
         let before = (a.clone(), b.clone());
         let room = output.len();
-        if N == 47 {
+        if board() == 47 {
             return log_by_own_heads(a, b, words, output);
         }
-        match N {
+        match board() {
             // A log begins with new channels, or forgets the previous positions, or has one k for both.
             37 => (renew(a), renew(b)),
             38 => (set(a, word::HAS_PREVIOUS, 0), set(b, word::HAS_PREVIOUS, 0)),
@@ -289,11 +305,11 @@ impl<const N: u32> Board for Wrong<N> {
         };
         let answer = Model::log(a, b, words, output);
         let refusal = |number, place| Err(Refusal { number, place });
-        match (N, answer) {
+        match (board(), answer) {
             (37..=39 | 57 | 58 | 162 | 163, Err(_)) => (*a, *b) = before,
             (164 | 165 | 211..=216, Ok(cycles)) => {
-                by_direction_in_log::<N>(a, &before.0, cycles);
-                by_direction_in_log::<N>(b, &before.1, cycles);
+                by_direction_in_log(a, &before.0, cycles);
+                by_direction_in_log(b, &before.1, cycles);
             }
             // Words of a log with the function off in A have the rank of cause 14.
             (217, Ok(1..)) if a.data()[1] & 32 == 0 && is_overstepped(a, last_of(a)) => {
@@ -354,13 +370,13 @@ impl<const N: u32> Board for Wrong<N> {
 }
 
 /// Wrong boards by what is active, in a usable cycle with F on before it.
-fn by_what_is_active<const N: u32>(channel: &mut Lent, old: &[u32], cycle: &mut Cycle) {
+fn by_what_is_active(channel: &mut Lent, old: &[u32], cycle: &mut Cycle) {
     let over = old[word::F_COUNT] == 0;
     let by_function = channel.data()[1] & 6 != 0;
     let was_active = by_function || old[word::EFFECTIVE] != 0;
     let active = by_function || channel.state()[word::EFFECTIVE] != 0;
     let cancelled = old[word::STOP] == 3;
-    match N {
+    match board() {
         // 13 is listed without its rank while nothing is active; or once it has stood.
         48 if over && !active && cycle.word >> 28 == 1 => list_code(cycle, 13),
         49 if over && !active && was_active && old[word::STOP] != 0 => list_code(cycle, 13),
@@ -379,12 +395,12 @@ fn by_what_is_active<const N: u32>(channel: &mut Lent, old: &[u32], cycle: &mut 
 }
 
 /// Wrong boards by what is kept of n<nx and no word shows at once.
-fn by_nx<const N: u32>(channel: &mut Lent, old: &[u32], unusable: bool) {
+fn by_nx(channel: &mut Lent, old: &[u32], unusable: bool) {
     let on = channel.data()[1] & 8 != 0;
     let filter = channel.data()[68] as u32;
     let head = channel.channel().data().head();
     let (value, run) = (channel.state()[word::NX], channel.state()[word::NX_RUN]);
-    match N {
+    match board() {
         // With the function off value or run stay, or are 0; or an unusable cycle ends them.
         59 if !on => set(channel, word::NX, old[word::NX]),
         60 if !on => set(channel, word::NX_RUN, old[word::NX_RUN]),
@@ -480,11 +496,11 @@ fn cut_runs(channel: &mut Lent) {
 }
 
 /// Wrong boards by what an accepted log leaves of safe direction.
-fn by_direction_in_log<const N: u32>(channel: &mut Lent, before: &Lent, cycles: usize) {
+fn by_direction_in_log(channel: &mut Lent, before: &Lent, cycles: usize) {
     let off = channel.data()[1] & 32 == 0;
     let old = before.state();
     let as_before = channel.channel().directions() == before.channel().directions();
-    match N {
+    match board() {
         // With the function off the words are left as they are, or runs or watches end, or runs are cut.
         211 if off => keep(channel, old, &WATCHES),
         212 if off => clear(channel, &RUNS),
@@ -538,19 +554,13 @@ fn other_code(cycle: &mut Cycle, code: u8, other: u8) {
 }
 
 /// Wrong boards by what is kept of safe direction and no word shows at once.
-fn by_direction<const N: u32>(
-    channel: &mut Lent,
-    old: &[u32],
-    unusable: bool,
-    inputs: u32,
-    position: i32,
-) {
+fn by_direction(channel: &mut Lent, old: &[u32], unusable: bool, inputs: u32, position: i32) {
     let on = channel.data()[1] & 32 != 0;
     let head = channel.channel().data().head();
     let delay = channel.data()[70] as u32;
     let directions = [(word::POSITIVE_RUN, 13), (word::NEGATIVE_RUN, 14)];
     if !on && !unusable {
-        match N {
+        match board() {
             // With the function off runs, or watches, end; in a list of 72 data, in a shorter one.
             166 => clear(channel, &RUNS),
             167 => clear(channel, &WATCHES),
@@ -569,7 +579,7 @@ fn by_direction<const N: u32>(
         }
     }
     if unusable {
-        match N {
+        match board() {
             // An unusable cycle writes them; with the function on, or off.
             205 => write_watches(channel),
             206 => write_extremes(channel),
@@ -581,7 +591,7 @@ fn by_direction<const N: u32>(
         }
     }
     if !on && unusable {
-        match N {
+        match board() {
             // An unusable cycle ends them where the function is off; in a shorter list.
             171 => clear(channel, &RUNS),
             172 => clear(channel, &WATCHES),
@@ -593,7 +603,7 @@ fn by_direction<const N: u32>(
         let (watch, extreme) = (run + 1, run + 2);
         let state = *channel.state();
         let goes_on = on && !unusable && state[watch] == 1 && old[watch] != 0;
-        match N {
+        match board() {
             // The run waits while there is a watch, stops one past the delay, or is counted on for ever.
             174 if goes_on => set(channel, run, old[run]),
             175 if on => set(channel, run, state[run].min(delay + 1)),
@@ -728,9 +738,9 @@ impl Seen {
 }
 
 /// The rank by which a wrong board sorts a cause, the greatest first.
-fn wrong_rank<const N: u32>(seen: &Seen, code: u8) -> i32 {
+fn wrong_rank(seen: &Seen, code: u8) -> i32 {
     let rank = seen.rank(code);
-    match (N, code) {
+    match (board(), code) {
         // By code alone, as before; the weakest first, those without a rank last or first; those without a rank first.
         (77, _) => 0,
         (78, _) if rank > 0 => 6 - rank,
@@ -798,9 +808,9 @@ fn wrong_rank<const N: u32>(seen: &Seen, code: u8) -> i32 {
 }
 
 /// The number by which a wrong board sorts causes of equal rank, the least first.
-fn wrong_tie<const N: u32>(seen: &Seen, code: u8) -> i32 {
+fn wrong_tie(seen: &Seen, code: u8) -> i32 {
     let rank = seen.rank(code);
-    match (N, code) {
+    match (board(), code) {
         // Downwards: all, those without a rank, those with one.
         (81, _) => -i32::from(code),
         (82, _) if rank == 0 => -i32::from(code),
@@ -825,10 +835,10 @@ thread_local! {
 }
 
 /// The codes as a wrong board gives them.
-fn in_order<const N: u32>(seen: &Seen) -> [u8; 13] {
+fn in_order(seen: &Seen) -> [u8; 13] {
     let mut codes = seen.codes.clone();
-    let key = |code: &u8| (-wrong_rank::<N>(seen, *code), wrong_tie::<N>(seen, *code));
-    match N {
+    let key = |code: &u8| (-wrong_rank(seen, *code), wrong_tie(seen, *code));
+    match board() {
         // Eight are sorted; or neighbours are put right once.
         132 => {
             let eight = codes.len().min(8);
@@ -844,16 +854,16 @@ fn in_order<const N: u32>(seen: &Seen) -> [u8; 13] {
         _ => codes.sort_by_key(key),
     }
     // Each code has its own place.
-    if N == 138 {
+    if board() == 138 {
         codes = (1..=13)
             .map(|code| code * u8::from(seen.stands(code)))
             .collect();
     }
     // A 0 between those with a rank and those without.
-    if let (134, Some(at)) = (N, codes.iter().position(|&code| seen.rank(code) == 0)) {
+    if let (134, Some(at)) = (board(), codes.iter().position(|&code| seen.rank(code) == 0)) {
         codes.insert(at, 0);
     }
-    let mut array = match N {
+    let mut array = match board() {
         // The places behind the codes are left as they are; or those behind a 1; or all where there is no code.
         135 => LAST.get(),
         136 if codes == [1] => LAST.get(),
@@ -903,20 +913,14 @@ fn log_by_own_heads(
     Ok(ran)
 }
 
+/// How many wrong boards there are.
+const BOARDS: u32 = 221;
+
 /// The wrong boards that no script tells.
 fn untold(scripts: &[Script]) -> Vec<u32> {
-    macro_rules! of {
-        ($($n:literal)*) => { [$(($n, told::<Wrong<$n>>(scripts).len())),*] };
-    }
-    let told = of!(0 1 2 3 4 5 6 7 8 9 10 11 12 13 14 15 16 17 18 19 20 21 22 23 24 25 26 27 28 29
-        30 31 32 33 34 35 36 37 38 39 40 41 42 43 44 45 46 47 48 49 50 51 52 53 54 55 56 57 58 59
-        60 61 62 63 64 65 66 67 68 69 70 71 72 73 74 75 76 77 78 79 80 81 82 83 84 85 86 87 88 89
-        90 91 92 93 94 95 96 97 98 99 100 101 102 103 104 105 106 107 108 109 110 111 112 113 114
-        115 116 117 118 119 120 121 122 123 124 125 126 127 128 129 130 131 132 133 134 135 136 137 138
-        139 140 141 142 143 144 145 146 147 148 149 150 151 152 153 154 155 156 157 158 159 160
-        161 162 163 164 165 166 167 168 169 170 171 172 173 174 175 176 177 178 179 180 181 182
-        183 184 185 186 187 188 189 190 191 192 193 194 195 196 197 198 199 200 201 202 203 204
-        205 206 207 208 209 210 211 212 213 214 215 216 217 218 219 220 221);
+    let told: Vec<_> = (0..=BOARDS)
+        .map(|board| (board, told_of(board)(scripts).len()))
+        .collect();
     assert_eq!(told[0], (0, 0));
     let untold = told[1..].iter().filter(|(_, scripts)| *scripts == 0);
     untold.map(|(board, _)| *board).collect()
@@ -929,6 +933,11 @@ fn each_wrong_board_is_told() {
 
 /// Two channels, and a cycle of both.
 const LISTS: &str = "lists X and Y -> accepted 154\n  0 = 12\n  34 = 9\n";
+
+/// The first difference of a script behind these.
+fn first(text: &str, told: impl Fn(&[Script]) -> Vec<String>) -> String {
+    told(&[script_of(&format!("{LISTS}{text}"))]).concat()
+}
 
 #[test]
 fn each_wrong_answer_is_told() {
@@ -983,12 +992,9 @@ fn each_wrong_answer_is_told() {
     }
     let cycle = "log X Y, output 5 -> ran 1\n  both 0 off -> 00000080 00000080 1\n";
     let short = "log X Y, output 2 -> refused 7 3\n  both 0 off\n";
-    let first = |text: &str, board: fn(&[Script]) -> Vec<String>| {
-        board(&[script_of(&format!("{LISTS}{text}"))]).concat()
-    };
     assert_eq!(first(cycle, told::<Model>), "");
     assert_eq!(
-        first(cycle, told::<Wrong<22>>),
+        first(cycle, told_of(22)),
         "own.txt: line 5: expected a5a5a5a5 in word 3 of the output; found 00000000 in word 3 of the output"
     );
     assert_eq!(
@@ -996,15 +1002,15 @@ fn each_wrong_answer_is_told() {
         "own.txt: line 5: expected 00000003 in word 2 of the output; found 00000001 in word 2 of the output"
     );
     assert_eq!(
-        first(short, told::<Wrong<20>>),
+        first(short, told_of(20)),
         "own.txt: line 5: expected channel X as it was; found it changed"
     );
     assert_eq!(
-        first(short, told::<Wrong<19>>),
+        first(short, told_of(19)),
         "own.txt: line 5: expected a5a5a5a5 in word 0 of the output; found 00000080 in word 0 of the output"
     );
     assert_eq!(
-        first("list X -> refused 4 1\n0 = 26", told::<Wrong<1>>),
+        first("list X -> refused 4 1\n0 = 26", told_of(1)),
         "own.txt: line 5: expected channel X as it was; found it changed"
     );
 }

@@ -9,7 +9,7 @@ use lib.IntN.{ℤ}
 use Rattle.laws.proofs.Bools.{if-case, or-left, or-right}
 use Rattle.machine_data.specs.declared.MachineData.{MachineData}
 use Rattle.machine_data.specs.Data.{functionOf}
-use Rattle.inputs.specs.Usable.{bitsUsable, usableOf}
+use Rattle.usable_inputs.specs.Usable.{bitsUsable, usableOf}
 use Rattle.selection.specs.declared.Selection.{Selection}
 use Rattle.selection.specs.Selection.{isEffective, selectedOf}
 use Rattle.selection.proofs.Effective.{effective-one-of}

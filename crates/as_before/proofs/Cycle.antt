@@ -5,7 +5,7 @@ use mathlib.Core.List.{List}
 use Rattle.machine_data.specs.declared.MachineData.{MachineData}
 use Rattle.stop.specs.declared.Stop.the-variants.{Cancelled}
 use Rattle.distance.specs.declared.Previous.the-variants.{Absent}
-use Rattle.inputs.specs.Usable.{bitsUsable, usableOf}
+use Rattle.usable_inputs.specs.Usable.{bitsUsable, usableOf}
 use Rattle.speed.specs.declared.Step.{Step}
 use Rattle.nx_signal.specs.Signal.{signalNext}
 use Rattle.comparison.specs.Comparison.{faultNext}

@@ -9,8 +9,8 @@ use lib.Dec.{leb, eqb}
 use lib.IntN.{natAbs}
 use Rattle.machine_data.specs.declared.MachineData.{MachineData}
 use Rattle.machine_data.specs.Data.{hasRatios}
-use Rattle.inputs.specs.Layout.{gearNumber, directionBits, spareOf}
-use Rattle.inputs.specs.Usable.{free}
+use Rattle.inputs.specs.Layout.{gearNumber, directionBits}
+use Rattle.usable_inputs.specs.Usable.{spareOf, free}
 use Rattle.direction.specs.Direction.{watchedOf, directionRank}
 use Rattle.active.specs.Active.{faultStops}
 use Rattle.causes.specs.declared.Cause.{Cause}

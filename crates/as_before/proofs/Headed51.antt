@@ -16,8 +16,8 @@ use Rattle.machine_data.specs.declared.MachineData.{MachineData}
 use Rattle.machine_data.specs.Data.{numberOf, ratioOf, hasRatios, entryOf, functionOf}
 use Rattle.machine_data.proofs.Lacks.{lacks}
 use Rattle.inputs.specs.declared.Reading.{Reading}
-use Rattle.inputs.specs.Layout.{gearNumber, directionBits, spareOf}
-use Rattle.inputs.specs.Usable.{free}
+use Rattle.inputs.specs.Layout.{gearNumber, directionBits}
+use Rattle.usable_inputs.specs.Usable.{spareOf, free}
 use Rattle.speed.specs.Speed.{speedOf, tooFast, slower}
 use Rattle.speed.proofs.Load.{too-fast-plain, slower-plain}
 use Rattle.report.specs.declared.Report.{Report}

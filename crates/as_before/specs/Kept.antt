@@ -11,7 +11,7 @@ use Rattle.words.specs.Words.{wordAt}
 use Rattle.machine_data.specs.declared.MachineData.{MachineData}
 use Rattle.machine_data.specs.Data.{numberOf, functionOf}
 use Rattle.inputs.specs.declared.Reading.{Reading}
-use Rattle.inputs.specs.Usable.{usableOf}
+use Rattle.usable_inputs.specs.Usable.{usableOf}
 use Rattle.selection.specs.Selection.{selectedOf, isEffective}
 use Rattle.comparison.specs.Comparison.{expired}
 use Rattle.active.specs.Active.{active}

@@ -10,8 +10,8 @@ use Rattle.machine_data.specs.declared.MachineData.{MachineData}
 use Rattle.machine_data.specs.declared.Ratio.{Ratio}
 use Rattle.machine_data.specs.Data.{hasRatios, functionOf}
 use Rattle.inputs.specs.declared.Reading.{Reading}
-use Rattle.inputs.specs.Layout.{gearNumber, directionBits, spareOf}
-use Rattle.inputs.specs.Usable.{free, ratioIn}
+use Rattle.inputs.specs.Layout.{gearNumber, ratioIn, directionBits}
+use Rattle.usable_inputs.specs.Usable.{spareOf, free}
 use Rattle.speed.specs.declared.Step.{Step}
 use Rattle.speed.specs.Speed.{slower}
 use Rattle.nx_signal.specs.declared.Signal.{Signal}

@@ -21,11 +21,12 @@ use Rattle.log.specs.declared.LogAnswer.{LogAnswer}
 use Rattle.log.specs.declared.LogAnswer.the-variants.{Accepted, Refused}
 use Rattle.log.specs.Run.{Ran, refusing, running, byRecords, ranOf}
 use Rattle.log.specs.Left.{beside, leftBeside}
-use Rattle.image.specs.Image.{countFrom, stateFrom, stateWords, channelFrom}
-use Rattle.image.specs.Written.{Written, writtenAs, writing}
+use Rattle.image.specs.Image.{countFrom, stateFrom, stateWords}
+use Rattle.channel_image.specs.Channels.{channelFrom}
+use Rattle.image_writing.specs.Written.{Written, writtenAs, writing}
 use Rattle.axis_logs.specs.Crossing.{logNumber, logPlace, logLeft}
 use Rattle.axis_logs.specs.Left.{LogLeft, leftByLog, ranFrom, logOver}
-use Rattle.image.proofs.Channels.{written}
+use Rattle.channel_image.proofs.Channels.{written}
 
 -- what a log leaves of its channels
 pub record Leaves (a b : Channel) (out : List ℕ) (r : Ran) : Type 0 where

@@ -5,7 +5,8 @@ use mathlib.Core.List.{List}
 use lib.IntN.{ℤ}
 use Rattle.channel.specs.declared.Channel.{Channel}
 use Rattle.log.specs.Run.{Ran, ranOf}
-use Rattle.image.specs.Image.{countFrom, stateWords, channelFrom}
+use Rattle.image.specs.Image.{countFrom, stateWords}
+use Rattle.channel_image.specs.Channels.{channelFrom}
 use Rattle.axis_logs.specs.Crossing.{logNumber, logPlace, logLeft}
 
 pub record LogLeft : Type 0 where

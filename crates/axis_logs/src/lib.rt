@@ -33,9 +33,9 @@ pub extern "C" fn monitor_run_log(
     match answer {
         LogAnswer::Accepted(cycles) => {
             let a_state = ran.a;
-            *state_a = image::words_of(na, a_state);
+            *state_a = image_writing::words_of(na, a_state);
             let b_state = ran.b;
-            *state_b = image::words_of(nb, b_state);
+            *state_b = image_writing::words_of(nb, b_state);
             *at = cycles;
             0
         }

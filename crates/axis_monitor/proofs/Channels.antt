@@ -7,7 +7,7 @@ use lib.IntN.{ℤ}
 use Rattle.machine_data.specs.declared.MachineData.{MachineData}
 use Rattle.machine_data.specs.Data.{lent, functionOf}
 use Rattle.inputs.specs.declared.Reading.{Reading}
-use Rattle.inputs.specs.Usable.{usableOf}
+use Rattle.usable_inputs.specs.Usable.{usableOf}
 use Rattle.codes.specs.declared.Causes.{Causes}
 use Rattle.codes.specs.Codes.{causesAs}
 use Rattle.state.specs.declared.Given.{Given}
@@ -19,9 +19,10 @@ use Rattle.direction.specs.declared.Directions.{Directions}
 use Rattle.direction.specs.declared.Watched.{Watched}
 use Rattle.direction.specs.Direction.{directionsNext, overstepped, watchedOf}
 use Rattle.channel.specs.Cycle.{next}
-use Rattle.image.specs.Image.{countFrom, directionsFrom, stateFrom, frontWords, directionWords, directionsIn, channelFrom}
-use Rattle.image.specs.Written.{Written, writtenAs, withDirections, writingFront, DirectionsWritten, directionsAs, writingDirections}
-use Rattle.image.proofs.Channels.{whole-count}
+use Rattle.image.specs.Image.{countFrom, directionsFrom, stateFrom, frontWords, directionWords, directionsIn}
+use Rattle.channel_image.specs.Channels.{channelFrom}
+use Rattle.image_writing.specs.Written.{Written, writtenAs, withDirections, writingFront, DirectionsWritten, directionsAs, writingDirections}
+use Rattle.channel_image.proofs.Channels.{whole-count}
 use Rattle.axis_monitor.specs.Left.{WayLeft, leftByWay, guarding, wordsOver, writingOver, leaving, usableLeaves, unusableLeaves, leftByCycle, guardedIn, cycleOn}
 
 -- the words of the directions that are there before the front is put over them are those of y where they were written, and else as they were

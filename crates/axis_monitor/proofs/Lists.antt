@@ -17,11 +17,12 @@ use Rattle.list.proofs.Accepts.{accepted, whole-answer}
 use Rattle.state.specs.declared.State.{State}
 use Rattle.state.specs.State.{freshState}
 use Rattle.channel.specs.Cycle.{freshChannel}
-use Rattle.image.specs.Image.{stateWords, channelFrom}
-use Rattle.image.specs.Written.{writtenAs, writing}
+use Rattle.image.specs.Image.{stateWords}
+use Rattle.channel_image.specs.Channels.{channelFrom}
+use Rattle.image_writing.specs.Written.{writtenAs, writing}
 use Rattle.axis_monitor.specs.Crossing.{listNumber, listPlace, listLeft}
 use Rattle.axis_monitor.specs.Left.{ListLeft, leftByList, listInto}
-use Rattle.image.proofs.Channels.{written}
+use Rattle.channel_image.proofs.Channels.{written}
 
 few-data : (words : List ℕ) (used : ℕ) → readList words .answer ≡ Accepted used → readList words .list .count < 4294967296
 few-data words used e = go (accepted words (readList words .list) used .0 (whole-answer words used e) .1)

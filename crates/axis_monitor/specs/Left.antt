@@ -7,7 +7,7 @@ use lib.IntN.{ℤ}
 use Rattle.machine_data.specs.declared.MachineData.{MachineData}
 use Rattle.machine_data.specs.Data.{functionOf}
 use Rattle.inputs.specs.declared.Reading.{Reading}
-use Rattle.inputs.specs.Usable.{usableOf}
+use Rattle.usable_inputs.specs.Usable.{usableOf}
 use Rattle.direction.specs.declared.Directions.{Directions}
 use Rattle.direction.specs.Direction.{directionsNext}
 use Rattle.causes.specs.Causes.{unusableTable, summaryOf}
@@ -26,8 +26,9 @@ use Rattle.channel.specs.declared.Channel.{Channel}
 use Rattle.channel.specs.Cycle.{freshChannel, withState, next}
 use Rattle.channel.specs.Word.{word}
 use Rattle.channel.specs.Outcome.{causesIn}
-use Rattle.image.specs.Image.{countFrom, listFrom, directionsFrom, stateFrom, frontWords, directionWords, stateWords, directionsIn, channelFrom}
-use Rattle.image.specs.Written.{Written, writtenAs, withDirections, DirectionsWritten, directionsAs, writingDirections}
+use Rattle.image.specs.Image.{countFrom, directionsFrom, stateFrom, frontWords, directionWords, stateWords, directionsIn}
+use Rattle.channel_image.specs.Channels.{listFrom, channelFrom}
+use Rattle.image_writing.specs.Written.{Written, writtenAs, withDirections, DirectionsWritten, directionsAs, writingDirections}
 use Rattle.crossing_reports.specs.Reports.{reportWords, reportFrom}
 use Rattle.axis_monitor.specs.Crossing.{listNumber, listPlace, listLeft}
 

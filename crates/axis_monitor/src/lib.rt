@@ -6,7 +6,7 @@ ghost use Rattle.device.specs.Device.{deviceOf};
 ghost use Rattle.crossing_reports.specs.Reports.{givenFrom};
 ghost use Rattle.axis_monitor.specs.Crossing.{interfaceNumber};
 ghost use Rattle.direction.specs.Direction.{watchedOf};
-ghost use Rattle.image.specs.Written.{directionsAs};
+ghost use Rattle.image_writing.specs.Written.{directionsAs};
 ghost use Rattle.axis_monitor.specs.Left.{leftByList, listInto, leftByReport, reportedBy, reporting, leftByWay, guarding, usableLeaves, unusableLeaves, leftByCycle, cycleOn};
 ghost use Rattle.machine_data.specs.Data.{lent};
 use codes::Codes;
@@ -44,7 +44,7 @@ pub extern "C" fn monitor_read_list(
         ListAnswer::Accepted(used) => {
             let read_values = list.values;
             *values = read_values;
-            *state = image::words_of(list.count, State::fresh());
+            *state = image_writing::words_of(list.count, State::fresh());
             *at = used;
             0
         }
@@ -86,7 +86,7 @@ fn guard(values: &Values, before: State, reading: Reading, state: &mut Image) ->
     let directions = kept.directions;
     if direction::on(values) {
         let after = directions.next(values, reading);
-        image::put_directions(after, state);
+        image_writing::put_directions(after, state);
         Watched {
             directions: after,
             overstepped: after.overstepped(values, reading),
@@ -118,7 +118,7 @@ fn usable_cycle(
     let summary = listed.summary;
     let advanced = advance::found(values, count, before, given, findings, summary);
     let after = advanced.state;
-    image::put_front(count, after, state);
+    image_writing::put_front(count, after, state);
     advanced.word
 }
 
@@ -135,7 +135,7 @@ fn unusable_cycle(
     let idle = advance::skipped(values, count, before);
     codes::list_unusable(causes);
     let after = idle.state;
-    image::put_front(count, after, state);
+    image_writing::put_front(count, after, state);
     idle.word
 }
 
@@ -155,7 +155,7 @@ pub extern "C" fn monitor_cycle(
     let given = crossing_reports::given_from(position, inputs, acknowledged, report);
     let count = image::count_of(state);
     let before = image::state_from(state);
-    if inputs::usable(values, count, given.reading) {
+    if usable_inputs::usable(values, count, given.reading) {
         usable_cycle(values, count, before, given, state, causes)
     } else {
         unusable_cycle(values, count, before, state, causes)

@@ -11,7 +11,7 @@ use Rattle.list.specs.declared.ListAnswer.the-variants.{Accepted, Refused}
 use Rattle.list.specs.Reading.{readList}
 use Rattle.channel.specs.declared.Channel.{Channel}
 use Rattle.channel.specs.Cycle.{freshChannel}
-use Rattle.image.specs.Image.{channelFrom}
+use Rattle.channel_image.specs.Channels.{channelFrom}
 use Rattle.axis_monitor.specs.Crossing.{listNumber, listLeft}
 use Rattle.axis_monitor.specs.Left.{ListLeft, leftByList, listInto}
 use Rattle.demand_3.specs.Calls.{Words, Answers}

@@ -14,7 +14,7 @@ use Rattle.log.specs.declared.LogAnswer.the-variants.{Accepted, Refused}
 use Rattle.log.specs.Run.{ranOf}
 use Rattle.log.specs.Left.{leftBy}
 use Rattle.single.specs.Single.{singleOf}
-use Rattle.image.specs.Image.{channelFrom}
+use Rattle.channel_image.specs.Channels.{channelFrom}
 use Rattle.device.specs.Device.{deviceOf}
 use Rattle.crossing_reports.specs.Reports.{givenFrom}
 use Rattle.axis_logs.specs.Crossing.{logNumber, logPlace}

@@ -6,7 +6,7 @@ use mathlib.Core.List.{List, [], _∷_, _++_}
 use lib.Dec.{eqb}
 use lib.IntN.{ℤ}
 use Rattle.device.specs.Device.{deviceOf}
-use Rattle.image.specs.Image.{channelFrom}
+use Rattle.channel_image.specs.Channels.{channelFrom}
 use Rattle.crossing_reports.specs.Reports.{givenFrom}
 use Rattle.axis_monitor.specs.Left.{leftByCycle, cycleOn}
 use Rattle.axis_logs.specs.Left.{leftByLog, logOver}

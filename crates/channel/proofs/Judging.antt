@@ -2,7 +2,7 @@
 use mathlib.Core.Path.{_≡_}
 use mathlib.Core.Bool.{true, false}
 use Rattle.machine_data.specs.declared.MachineData.{MachineData}
-use Rattle.inputs.specs.Usable.{usableOf}
+use Rattle.usable_inputs.specs.Usable.{usableOf}
 use Rattle.causes.specs.Causes.{unusableTable, summaryOf}
 use Rattle.codes.specs.Codes.{causesOf}
 use Rattle.state.specs.declared.State.{State}

@@ -1,7 +1,7 @@
 -- A channel's state over a cycle: document 01, steps 1, 5 and 6.
 use mathlib.Core.Bool.{Bool, not, cond, _&&_}
 use Rattle.machine_data.specs.declared.MachineData.{MachineData}
-use Rattle.inputs.specs.Usable.{usableOf}
+use Rattle.usable_inputs.specs.Usable.{usableOf}
 use Rattle.rank.specs.declared.Rank.{Rank}
 use Rattle.rank.specs.declared.Rank.the-variants.{None}
 use Rattle.stop.specs.Stop.{entersOf}

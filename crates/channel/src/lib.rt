@@ -36,7 +36,7 @@ pub struct Outcome {
 pub fn advance(values: &Values, count: usize, state: State, given: Given) -> Advanced
     ensures { λ r. ⌜ r ≡ advanced (lent (now (values .entry)) count) state given ⌝ }
 {
-    if inputs::usable(values, count, given.reading) {
+    if usable_inputs::usable(values, count, given.reading) {
         let findings = judge::judge(values, count, state, given);
         let rows = findings.rows;
         let summary = Summary::of(rows);
@@ -68,7 +68,7 @@ pub fn with_state(channel: Channel, state: State) -> Channel
 fn cycle_on(values: &Values, count: usize, state: State, given: Given) -> Cycled
     ensures { λ r. ⌜ r ≡ cycled (lent (now (values .entry)) count) state given ⌝ }
 {
-    if inputs::usable(values, count, given.reading) {
+    if usable_inputs::usable(values, count, given.reading) {
         let findings = judge::judge(values, count, state, given);
         let rows = findings.rows;
         let mut codes = [0u8; CODES];

@@ -8,7 +8,7 @@ use lib.ListN.{length}
 use native.Mathlib.Omega.{arith}
 use Rattle.laws.proofs.Bools.{if-case, and-false}
 use Rattle.machine_data.specs.declared.MachineData.{MachineData}
-use Rattle.inputs.specs.Usable.{usableOf}
+use Rattle.usable_inputs.specs.Usable.{usableOf}
 use Rattle.speed.specs.declared.Step.{Step}
 use Rattle.selection.specs.declared.Choice.{Choice}
 use Rattle.selection.specs.declared.Selection.{Selection}
@@ -17,10 +17,10 @@ use Rattle.limits.specs.Limits.{standstillLeft, overSpeed}
 use Rattle.causes.specs.declared.Cause.{Cause}
 use Rattle.causes.specs.Causes.{rowCount, unusableTable}
 use Rattle.codes.specs.Codes.{ofRank, below, inOrder, causesOf}
-use Rattle.codes.specs.Lists.{Rising}
-use Rattle.codes.proofs.Order.{lists}
-use Rattle.codes.proofs.Only.{only}
-use Rattle.codes.proofs.Few.{two-exclude, once}
+use Rattle.codes_order.specs.Lists.{Rising}
+use Rattle.codes_order.proofs.Order.{lists}
+use Rattle.codes_order.proofs.Only.{only}
+use Rattle.codes_order.proofs.Few.{two-exclude, once}
 use Rattle.state.specs.declared.State.{State}
 use Rattle.state.specs.declared.Given.{Given}
 use Rattle.judge.specs.Causes.{stepIn, choiceIn, usableRows, rowsOf}

@@ -5,7 +5,7 @@ use mathlib.Core.Path.{_≡_}
 use Rattle.machine_data.specs.declared.MachineData.{MachineData}
 use Rattle.causes.specs.Causes.{rowCount}
 use Rattle.codes.specs.declared.Causes.{Causes}
-use Rattle.codes.specs.Lists.{wanted, Lists}
+use Rattle.codes_order.specs.Lists.{wanted, Lists}
 use Rattle.state.specs.declared.State.{State}
 use Rattle.state.specs.declared.Given.{Given}
 use Rattle.judge.specs.Causes.{rowsOf}

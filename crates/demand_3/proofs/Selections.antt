@@ -6,7 +6,7 @@ use mathlib.Core.Path.{_≡_, refl, sym, _∙_}
 use native.Mathlib.Omega.{arith}
 use Rattle.machine_data.specs.declared.MachineData.{MachineData}
 use Rattle.machine_data.specs.Data.{numberOf}
-use Rattle.inputs.specs.Usable.{usableOf}
+use Rattle.usable_inputs.specs.Usable.{usableOf}
 use Rattle.selection.specs.declared.Selection.{Selection}
 use Rattle.selection.specs.declared.Choice.{Choice}
 use Rattle.state.specs.declared.State.{State}

@@ -9,7 +9,7 @@ use lib.IntN.{ℤ}
 use lib.Ieee.Bits.{is-true}
 use Rattle.laws.proofs.Bools.{and-false}
 use Rattle.machine_data.specs.declared.MachineData.{MachineData}
-use Rattle.inputs.specs.Usable.{usableOf}
+use Rattle.usable_inputs.specs.Usable.{usableOf}
 use Rattle.inputs.specs.declared.External.{External}
 use Rattle.inputs.specs.declared.External.the-variants as X
 use Rattle.speed.specs.Speed.{slower}

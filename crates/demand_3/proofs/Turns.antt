@@ -8,7 +8,7 @@ use native.Mathlib.Omega.{arith}
 use lib.Dec.{T}
 use Rattle.machine_data.specs.declared.MachineData.{MachineData}
 use Rattle.machine_data.specs.Data.{numberOf}
-use Rattle.inputs.specs.Usable.{usableOf}
+use Rattle.usable_inputs.specs.Usable.{usableOf}
 use Rattle.selection.specs.declared.Choice.{Choice}
 use Rattle.rank.specs.declared.Rank.{Rank}
 use Rattle.rank.specs.Rank.{rankNumber, timeOf}

@@ -11,7 +11,7 @@ use Rattle.bits.specs.Bits.{bitOf, fieldOf}
 use Rattle.machine_data.specs.declared.MachineData.{MachineData}
 use Rattle.machine_data.specs.Data.{numberOf}
 use Rattle.runs.specs.Running.{All, usableBefore, window}
-use Rattle.inputs.specs.Usable.{usableOf}
+use Rattle.usable_inputs.specs.Usable.{usableOf}
 use Rattle.selection.specs.declared.Selection.{Selection}
 use Rattle.selection.specs.declared.Selection.the-variants.{Nothing, Sg, Sbh}
 use Rattle.selection.specs.Selection.{selectedOf, stricter, isEffective}

@@ -5,7 +5,7 @@ use mathlib.Core.Path.{_≡_}
 use lib.Dec.{T}
 use Rattle.machine_data.specs.declared.MachineData.{MachineData}
 use Rattle.machine_data.specs.Data.{functionOf}
-use Rattle.inputs.specs.Usable.{usableOf}
+use Rattle.usable_inputs.specs.Usable.{usableOf}
 use Rattle.state.specs.declared.Given.{Given}
 use Rattle.channel.specs.Word.{word}
 use Rattle.demand_3.specs.History.{history}

@@ -1,3 +1,1 @@
-pub mod Signs
-pub mod Since
-pub mod Mirror
+pub mod Extreme

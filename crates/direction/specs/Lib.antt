@@ -1,2 +1,1 @@
 pub mod Direction
-pub mod Since

@@ -10,7 +10,7 @@ use lib.Ieee.Fits.{and-i}
 use Rattle.laws.proofs.Bools.{and-false, or-left, or-right}
 use Rattle.machine_data.specs.declared.MachineData.{MachineData}
 use Rattle.machine_data.specs.Data.{numberOf, functionOf}
-use Rattle.inputs.specs.Usable.{usableOf}
+use Rattle.usable_inputs.specs.Usable.{usableOf}
 use Rattle.runs.specs.Running.{Running}
 use Rattle.direction.specs.declared.Sign.{Sign}
 use Rattle.direction.specs.declared.Sign.the-variants.{Positive, Negative}
@@ -19,8 +19,8 @@ use Rattle.direction.specs.declared.Directions.{Directions}
 use Rattle.direction.specs.declared.Watch.{Watch}
 use Rattle.direction.specs.declared.Watch.the-variants.{Off, On}
 use Rattle.direction.specs.Direction.{noDirection, noDirections, directionNext, directionsNext, beyondBy, overstepped, watchedOf}
-use Rattle.direction.specs.Since.{bound, Beyond}
-use Rattle.direction.proofs.Since as D
+use Rattle.direction_laws.specs.Since.{bound, Beyond}
+use Rattle.direction_laws.proofs.Since as D
 use Rattle.state.specs.declared.State.{State}
 use Rattle.state.specs.declared.Given.{Given}
 use Rattle.judge.specs.Causes.{usableRows, rowsOf}

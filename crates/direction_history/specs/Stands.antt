@@ -16,7 +16,7 @@ use Rattle.direction.specs.declared.Direction.{Direction}
 use Rattle.direction.specs.declared.Directions.{Directions}
 use Rattle.direction.specs.declared.Watch.the-variants.{On}
 use Rattle.direction.specs.Direction.{noDirections}
-use Rattle.direction.specs.Since.{bound, Beyond}
+use Rattle.direction_laws.specs.Since.{bound, Beyond}
 use Rattle.state.specs.declared.Given.{Given}
 use Rattle.demand_3.specs.History.{history}
 use Rattle.demand_3.specs.Claims.{usableIn, Stands}

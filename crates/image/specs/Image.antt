@@ -1,13 +1,9 @@
--- A channel's image: the words that its state and the count of its list are kept in, beside its data.
+-- A channel's image: the words that its state and the count of its list are kept in, beside its data (channel_image).
 use Prim.Native.Nat.{ℕ, zero, suc, _%_, _<_}
 use mathlib.Core.List.{List, [], _∷_, _++_}
 use lib.ListN.{getD}
-use lib.IntN.{ℤ}
-use Rattle.machine_data.specs.declared.MachineData.{MachineData}
-use Rattle.machine_data.specs.Data.{lent}
 use Rattle.direction.specs.declared.Directions.{Directions}
 use Rattle.state.specs.declared.State.{State}
-use Rattle.channel.specs.declared.Channel.{Channel}
 use Rattle.crossing.specs.Words.{signedOf, unsignedOf, Signed, yesFrom, yesWord}
 use Rattle.image_cases.specs.Cases.{previousFrom, previousWords, PreviousFits, watchFrom, watchWords, WatchFits, selectionFrom, selectionWords, SelectionFits, stopFrom, stopWords, StopFits}
 
@@ -113,14 +109,6 @@ frontIn w = wordsFrom w 0 19
 
 abbrev pub directionsIn : List ℕ → List ℕ
 directionsIn w = wordsFrom w 19 6
-
--- the list that data and words stand for
-abbrev pub listFrom : List ℤ → List ℕ → MachineData
-listFrom values w = lent values (countFrom w)
-
--- the channel that they stand for
-abbrev pub channelFrom : List ℤ → List ℕ → Channel
-channelFrom values w = record { list = listFrom values w; state = stateFrom w }
 
 -- ---- of the laws: what they ask of a state
 

@@ -1,6 +1,10 @@
 -- The input word: document 01, "Input word, bytes 22, 23, 32, 33 of DB31, 22 lowest", W1 and W6.
-use Prim.Native.Nat.{ℕ, _+_, _/_, _%_, _^_}
+use Prim.Native.Nat.{ℕ}
 use mathlib.Core.Bool.{Bool}
+use mathlib.Core.List.{List}
+use lib.IntN.{ℤ}
+use Rattle.machine_data.specs.declared.Ratio.{Ratio}
+use Rattle.machine_data.specs.Data.{ratioOf}
 use Rattle.bits.specs.Bits.{bitOf, fieldOf}
 use Rattle.inputs.specs.declared.External.{External}
 use Rattle.inputs.specs.declared.External.the-variants.{A, C, D, E}
@@ -20,6 +24,10 @@ sgNumber w = fieldOf w 3 4
 -- W1: "Input bits 8 to 10 pick one of eight ratios", bit 8 the lowest
 abbrev pub gearNumber : ℕ → ℕ
 gearNumber w = fieldOf w 8 8
+
+-- the ratio that they pick
+abbrev pub ratioIn : List ℤ → ℕ → Ratio
+ratioIn d w = ratioOf d (gearNumber w)
 
 -- "12 SE2 instead of SE1"
 abbrev pub se2Chosen : ℕ → Bool
@@ -46,7 +54,3 @@ externalOff w E = bitOf w 21
 -- "28-31 override"
 abbrev pub overrideNumber : ℕ → ℕ
 overrideNumber w = fieldOf w 28 16
-
--- "Every other bit": 2, 5 to 7, 11, 15 to 17 and 22 to 27; 0 if each of them is
-abbrev pub spareOf : ℕ → ℕ
-spareOf w = w / 2 ^ 2 % 2 ^ 1 + w / 2 ^ 5 % 2 ^ 3 + w / 2 ^ 11 % 2 ^ 1 + w / 2 ^ 15 % 2 ^ 3 + w / 2 ^ 22 % 2 ^ 6

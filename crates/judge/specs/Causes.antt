@@ -8,7 +8,8 @@ use Rattle.distance.specs.Step.{movedFrom}
 use lib.IntN.{ℤ}
 use Rattle.inputs.specs.declared.Reading.{Reading}
 use Rattle.inputs.specs.declared.External as X
-use Rattle.inputs.specs.Usable.{usableOf, ratioIn}
+use Rattle.inputs.specs.Layout.{ratioIn}
+use Rattle.usable_inputs.specs.Usable.{usableOf}
 use Rattle.report.specs.Report.{datumDiffers}
 use Rattle.speed.specs.declared.Step.{Step}
 use Rattle.nx_signal.specs.declared.Signal.{Signal}

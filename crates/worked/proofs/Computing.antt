@@ -3,7 +3,7 @@ use Rattle.bits.specs.Bits
 use Rattle.machine_data.specs.Data
 use Rattle.words.specs.Words
 use Rattle.records.specs.Records
-use Rattle.inputs.specs.Usable
+use Rattle.usable_inputs.specs.Usable
 use Rattle.report.specs.Report
 use Rattle.runs.specs.Run
 use Rattle.speed.specs.Speed
@@ -14,7 +14,7 @@ use Rattle.comparison.specs.Comparison
 use Rattle.active.specs.Active
 use Rattle.cams.specs.Cams
 use Rattle.causes.specs.Causes as Rows
-use Rattle.codes.specs.Lists
+use Rattle.codes_order.specs.Lists
 use Rattle.limits.specs.Limits
 use Rattle.direction.specs.Direction
 use Rattle.channel_word.specs.Word as ChannelWord

@@ -17,7 +17,7 @@ use Rattle.seven.specs.declared.CycleRecord.{CycleRecord}
 use Rattle.selection.specs.declared.Selection.{Selection}
 use Rattle.selection.specs.declared.Selection.the-variants.{Nothing, Sbh}
 use Rattle.stop.specs.Stop.{levelOf}
-use Rattle.codes.specs.Lists.{wanted}
+use Rattle.codes_order.specs.Lists.{wanted}
 use Rattle.state.specs.declared.Given.{Given}
 use Rattle.judge.specs.Causes.{rowsOf}
 use Rattle.demand_3.specs.History.{history}

@@ -6,7 +6,7 @@ use denote.Ref.{now}
 use borrow.Author.Needs.{needs}
 use Rattle.machine_data.specs.declared.MachineData.{MachineData}
 use Rattle.machine_data.specs.Data.{lent}
-use Rattle.inputs.specs.Usable.{usableOf}
+use Rattle.usable_inputs.specs.Usable.{usableOf}
 use Rattle.state.specs.declared.Given.{Given}
 use Rattle.image.specs.Image.{stateFrom}
 use Rattle.crossing_reports.specs.Reports.{givenFrom}

@@ -6,7 +6,7 @@ use mir.Syntax.{w32, w64}
 use mir.Val.{SFits, toZ, ofZ}
 use mir.Facts.{toZ-ofZ}
 use Rattle.direction.specs.Direction.{ahead}
-use Rattle.direction.proofs.Signs.{taken-in, left-out}
+use Rattle.direction.proofs.Extreme.{taken-in, left-out}
 use borrow.Author.Needs.{needs}
 use Rattle.direction.proofs.furthest.Statement.{statement}
 use Rattle.direction.proofs.furthest.Tie as tie

@@ -1,0 +1,3 @@
+pub mod Order
+pub mod Only
+pub mod Few

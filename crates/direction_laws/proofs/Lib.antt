@@ -1,0 +1,3 @@
+pub mod Signs
+pub mod Since
+pub mod Mirror

@@ -11,11 +11,12 @@ use Rattle.machine_data.specs.declared.MachineData.{MachineData}
 use Rattle.machine_data.specs.Data.{hasRatios}
 use Rattle.inputs.specs.Layout.{gearNumber, directionBits}
 use Rattle.usable_inputs.specs.Usable.{spareOf, free}
-use Rattle.direction.specs.Direction.{watchedOf, directionRank}
+use Rattle.directions.specs.Directions.{watchedOf, directionRank}
 use Rattle.active.specs.Active.{faultStops}
 use Rattle.causes.specs.declared.Cause.{Cause}
 use Rattle.causes.specs.Causes.{cause, unusableTable, strongestOf, freshOf}
-use Rattle.codes.specs.Codes.{rankCount, standsAt, ofRank, below, padded, causesAs, causesOf}
+use Rattle.code_places.specs.Places.{rankCount, standsAt, ofRank, below}
+use Rattle.codes.specs.Codes.{padded, causesAs, causesOf}
 use Rattle.seven.specs.declared.CycleRecord.{CycleRecord}
 use Rattle.state.specs.declared.State.{State}
 use Rattle.state.specs.declared.Given.{Given}

@@ -11,7 +11,7 @@ use Rattle.speed.specs.declared.Step.{Step}
 use Rattle.nx_signal.specs.Signal.{signalNext}
 use Rattle.rank.specs.declared.Rank.the-variants as R
 use Rattle.stop.specs.declared.Stop.the-variants.{Cancelled}
-use Rattle.direction.specs.declared.Watched.{Watched}
+use Rattle.directions.specs.declared.Watched.{Watched}
 use Rattle.comparison.specs.declared.Fault.{Fault}
 use Rattle.comparison.specs.Comparison.{positionDiffers, inputsDiffer, faultNext}
 use Rattle.causes.specs.declared.Cause.{Cause}

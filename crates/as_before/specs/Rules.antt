@@ -16,9 +16,9 @@ use Rattle.speed.specs.declared.Step.{Step}
 use Rattle.speed.specs.Speed.{slower}
 use Rattle.nx_signal.specs.declared.Signal.{Signal}
 use Rattle.nx_signal.specs.Signal.{signalNext}
-use Rattle.direction.specs.declared.Directions.{Directions}
-use Rattle.direction.specs.declared.Watched.{Watched}
-use Rattle.direction.specs.Direction.{watchedOf}
+use Rattle.directions.specs.declared.Directions.{Directions}
+use Rattle.directions.specs.declared.Watched.{Watched}
+use Rattle.directions.specs.Directions.{watchedOf}
 use Rattle.causes.specs.declared.Cause.{Cause}
 use Rattle.selection.specs.declared.Selection.{Selection}
 use Rattle.report.specs.declared.Report.{Report}

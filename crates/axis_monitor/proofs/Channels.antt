@@ -15,9 +15,9 @@ use Rattle.state.specs.declared.State.{State}
 use Rattle.advance.specs.declared.Advanced.{Advanced}
 use Rattle.channel.specs.Outcome.{causesIn, advanced}
 use Rattle.channel.proofs.Judging.{usable-cycle, usable-causes, unusable-cycle, unusable-causes}
-use Rattle.direction.specs.declared.Directions.{Directions}
-use Rattle.direction.specs.declared.Watched.{Watched}
-use Rattle.direction.specs.Direction.{directionsNext, overstepped, watchedOf}
+use Rattle.directions.specs.declared.Directions.{Directions}
+use Rattle.directions.specs.declared.Watched.{Watched}
+use Rattle.directions.specs.Directions.{directionsNext, overstepped, watchedOf}
 use Rattle.channel.specs.Cycle.{next}
 use Rattle.image.specs.Image.{countFrom, directionsFrom, stateFrom, frontWords, directionWords, directionsIn}
 use Rattle.channel_image.specs.Channels.{channelFrom}

@@ -8,8 +8,8 @@ use Rattle.machine_data.specs.declared.MachineData.{MachineData}
 use Rattle.machine_data.specs.Data.{functionOf}
 use Rattle.inputs.specs.declared.Reading.{Reading}
 use Rattle.usable_inputs.specs.Usable.{usableOf}
-use Rattle.direction.specs.declared.Directions.{Directions}
-use Rattle.direction.specs.Direction.{directionsNext}
+use Rattle.directions.specs.declared.Directions.{Directions}
+use Rattle.directions.specs.Directions.{directionsNext}
 use Rattle.causes.specs.Causes.{unusableTable, summaryOf}
 use Rattle.codes.specs.declared.Causes.{Causes}
 use Rattle.codes.specs.Codes.{causesOf}

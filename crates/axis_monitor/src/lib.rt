@@ -5,13 +5,13 @@ ghost use mathlib.Core.Path.{_≡_};
 ghost use Rattle.device.specs.Device.{deviceOf};
 ghost use Rattle.crossing_reports.specs.Reports.{givenFrom};
 ghost use Rattle.axis_monitor.specs.Crossing.{interfaceNumber};
-ghost use Rattle.direction.specs.Direction.{watchedOf};
+ghost use Rattle.directions.specs.Directions.{watchedOf};
 ghost use Rattle.image_writing.specs.Written.{directionsAs};
 ghost use Rattle.axis_monitor.specs.Left.{leftByList, listInto, leftByReport, reportedBy, reporting, leftByWay, guarding, usableLeaves, unusableLeaves, leftByCycle, cycleOn};
 ghost use Rattle.machine_data.specs.Data.{lent};
 use codes::Codes;
 use crossing_reports::ReportWords;
-use direction::Watched;
+use directions::Watched;
 use image::Image;
 use inputs::Reading;
 use list::ListAnswer;
@@ -84,7 +84,7 @@ fn guard(values: &Values, before: State, reading: Reading, state: &mut Image) ->
 {
     let kept = before.kept;
     let directions = kept.directions;
-    if direction::on(values) {
+    if directions::on(values) {
         let after = directions.next(values, reading);
         image_writing::put_directions(after, state);
         Watched {

@@ -1,4 +1,2 @@
-pub mod Ranks
-pub mod Told
-pub mod Places
+pub mod Listing
 pub mod Empty

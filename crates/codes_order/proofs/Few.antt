@@ -9,8 +9,8 @@ use native.Mathlib.Omega.{arith}
 use borrow.Author.Tests.{eqb-true}
 use Rattle.bits.specs.Bits.{flag}
 use Rattle.causes.specs.declared.Cause.{Cause}
-use Rattle.codes.specs.Codes.{inOrder}
-use Rattle.codes.proofs.Ranks.{many-more, flag-most, rows-most}
+use Rattle.code_places.specs.Places.{inOrder}
+use Rattle.code_places.proofs.Ranks.{many-more, flag-most, rows-most}
 use Rattle.codes_order.specs.Lists.{wanted, Rising}
 
 -- ---- two that exclude each other

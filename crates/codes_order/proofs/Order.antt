@@ -12,9 +12,10 @@ use borrow.Author.Tests.{eqb-true, eq-eqb}
 use Rattle.bits.specs.Bits.{flag}
 use Rattle.rank.specs.Rank.{rankNumber}
 use Rattle.causes.specs.declared.Cause.{Cause}
-use Rattle.codes.specs.Codes.{codesMost, rankCount, standsAt, ofRank, below, inOrder, padded, causesOf}
+use Rattle.code_places.specs.Places.{rankCount, standsAt, ofRank, below, inOrder}
+use Rattle.codes.specs.Codes.{codesMost, padded, causesOf}
 use Rattle.codes_order.specs.Lists.{occurrences, wanted, rankIn, strength, Before, Each, Sorted, codesOf, Lists, Rising}
-use Rattle.codes.proofs.Ranks.{weigh, one-more}
+use Rattle.code_places.proofs.Ranks.{weigh, one-more}
 
 -- ---- each code that stands, and no other
 

@@ -16,7 +16,8 @@ use Rattle.selection.specs.declared.Selection.the-variants.{Nothing, Sg, Sbh}
 use Rattle.limits.specs.Limits.{standstillLeft, overSpeed}
 use Rattle.causes.specs.declared.Cause.{Cause}
 use Rattle.causes.specs.Causes.{rowCount, unusableTable}
-use Rattle.codes.specs.Codes.{ofRank, below, inOrder, causesOf}
+use Rattle.code_places.specs.Places.{ofRank, below, inOrder}
+use Rattle.codes.specs.Codes.{causesOf}
 use Rattle.codes_order.specs.Lists.{Rising}
 use Rattle.codes_order.proofs.Order.{lists}
 use Rattle.codes_order.proofs.Only.{only}

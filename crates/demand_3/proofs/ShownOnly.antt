@@ -17,7 +17,8 @@ use Rattle.selection.specs.declared.Selection.{Selection}
 use Rattle.selection.specs.declared.Selection.the-variants.{Nothing}
 use Rattle.selection.specs.Selection.{selectedOf}
 use Rattle.selection.proofs.Effective.{effective-one-of}
-use Rattle.limits.specs.Limits.{standstillLeft, overSpeed, outside, external, holdLeft}
+use Rattle.limits.specs.Limits.{standstillLeft, overSpeed, external, holdLeft}
+use Rattle.end_positions.specs.EndPositions.{outside}
 use Rattle.rank.specs.Rank.{strongerOf}
 use Rattle.rank.specs.declared.Rank.the-variants.{None}
 use Rattle.stop.specs.declared.Stop.{Stop}
@@ -29,7 +30,7 @@ use Rattle.causes.specs.declared.Cause.{Cause}
 use Rattle.causes.specs.Causes.{strongestOf}
 use Rattle.state.specs.declared.State.{State}
 use Rattle.state.specs.declared.Given.{Given}
-use Rattle.direction.specs.Direction.{watchedOf}
+use Rattle.directions.specs.Directions.{watchedOf}
 use Rattle.judge.specs.Causes.{choiceIn, watchedIn, stepIn, faultIn, stopsIn, usableRows, rowsOf}
 use Rattle.channel.specs.Cycle.{strongestIn, clearsIn, next}
 use Rattle.channel.specs.Word.{word}

@@ -1,12 +1,9 @@
-// Safe direction: the run and the watch of one direction, once for both, with a sign; and cause 14.
+// Safe direction: the run and the watch of one direction, once for both, with a sign.
 ghost use mathlib.Core.Path.{_≡_};
-ghost use Rattle.machine_data.specs.Data.{functionOf};
-ghost use Rattle.direction.specs.Direction.{ahead, furthest, beyondBy, noDirection, noDirections, watchNext, directionNext, directionsNext, overstepped, watchedOf, directionRank};
+ghost use Rattle.direction.specs.Direction.{ahead, furthest, beyondBy, noDirection, watchNext, directionNext};
 use inputs::Reading;
 use machine_data::Values;
-use machine_data::functions;
 use machine_data::numbers;
-use rank::Rank;
 
 // The travel that is allowed.
 pub enum Sign {
@@ -25,18 +22,6 @@ pub enum Watch {
 pub struct Direction {
     pub run: u32,
     pub watch: Watch,
-}
-
-// Only positive travel, and only negative travel.
-pub struct Directions {
-    pub positive: Direction,
-    pub negative: Direction,
-}
-
-// The directions as a usable cycle leaves them, and whether one is overstepped: cause 14.
-pub struct Watched {
-    pub directions: Directions,
-    pub overstepped: bool,
 }
 
 // How far position a lies from b in the allowed direction: all that the sign decides.
@@ -78,7 +63,7 @@ impl Watch {
     }
 
     // Whether the position lies more than the tolerance behind the extreme.
-    fn beyond(self, values: &Values, sign: Sign, reading: Reading) -> bool
+    pub fn beyond(self, values: &Values, sign: Sign, reading: Reading) -> bool
         ensures { λ r. ⌜ r ≡ beyondBy (now (values .entry)) sign (reading .position) self ⌝ }
     {
         match self {
@@ -93,7 +78,7 @@ impl Watch {
 
 impl Direction {
     // Without run and watch.
-    fn none() -> Direction
+    pub fn none() -> Direction
         ensures { λ r. ⌜ r ≡ noDirection ⌝ }
     {
         Direction {
@@ -103,7 +88,7 @@ impl Direction {
     }
 
     // A direction after a usable cycle in which its bit is 1, `free`, or 0.
-    fn next(self, values: &Values, sign: Sign, free: bool, reading: Reading) -> Direction
+    pub fn next(self, values: &Values, sign: Sign, free: bool, reading: Reading) -> Direction
         ensures { λ r. ⌜ r ≡ directionNext (now (values .entry)) sign free (reading .position) self ⌝ }
     {
         if free {
@@ -116,78 +101,4 @@ impl Direction {
             watch: watch.next(values, sign, run, reading),
         }
     }
-}
-
-impl Directions {
-    // Without run and watch in either direction.
-    pub fn none() -> Directions
-        ensures { λ r. ⌜ r ≡ noDirections ⌝ }
-    {
-        Directions {
-            positive: Direction::none(),
-            negative: Direction::none(),
-        }
-    }
-
-    // Both directions after a usable cycle with the function on.
-    pub fn next(self, values: &Values, reading: Reading) -> Directions
-        ensures { λ r. ⌜ r ≡ directionsNext (now (values .entry)) reading self ⌝ }
-    {
-        let positive = self.positive;
-        let negative = self.negative;
-        let positive_free = inputs::positive_only_off(reading.inputs);
-        let negative_free = inputs::negative_only_off(reading.inputs);
-        Directions {
-            positive: positive.next(values, Sign::Positive, positive_free, reading),
-            negative: negative.next(values, Sign::Negative, negative_free, reading),
-        }
-    }
-
-    // Cause 14, by the watches as this cycle leaves them.
-    pub fn overstepped(self, values: &Values, reading: Reading) -> bool
-        ensures { λ r. ⌜ r ≡ overstepped (now (values .entry)) (reading .position) self ⌝ }
-    {
-        let positive = self.positive;
-        let negative = self.negative;
-        let positive_watch = positive.watch;
-        let negative_watch = negative.watch;
-        if positive_watch.beyond(values, Sign::Positive, reading) {
-            true
-        } else {
-            negative_watch.beyond(values, Sign::Negative, reading)
-        }
-    }
-
-    // Both directions after a usable cycle, and cause 14. With the function off they are left as they are: then none has a run or
-    // a watch, since none had one to begin with.
-    pub fn watched(self, values: &Values, reading: Reading) -> Watched
-        ensures { λ r. ⌜ r ≡ watchedOf (now (values .entry)) reading self ⌝ }
-    {
-        if on(values) {
-            let directions = self.next(values, reading);
-            Watched {
-                directions,
-                overstepped: directions.overstepped(values, reading),
-            }
-        } else {
-            Watched {
-                directions: self,
-                overstepped: false,
-            }
-        }
-    }
-}
-
-// Whether safe direction is on.
-pub fn on(values: &Values) -> bool
-    ensures { λ r. ⌜ r ≡ functionOf (now (values .entry)) 5 ⌝ }
-{
-    machine_data::function(values, functions::DIRECTION)
-}
-
-// The rank of cause 14.
-pub fn rank(values: &Values) -> Rank
-    ensures { λ r. ⌜ r ≡ directionRank (now (values .entry)) ⌝ }
-{
-    Rank::from_number(machine_data::number(values, numbers::DIRECTION_STOP))
 }

@@ -15,10 +15,11 @@ use Rattle.runs.specs.Running.{Running}
 use Rattle.direction.specs.declared.Sign.{Sign}
 use Rattle.direction.specs.declared.Sign.the-variants.{Positive, Negative}
 use Rattle.direction.specs.declared.Direction.{Direction}
-use Rattle.direction.specs.declared.Directions.{Directions}
+use Rattle.directions.specs.declared.Directions.{Directions}
 use Rattle.direction.specs.declared.Watch.{Watch}
 use Rattle.direction.specs.declared.Watch.the-variants.{Off, On}
-use Rattle.direction.specs.Direction.{noDirection, noDirections, directionNext, directionsNext, beyondBy, overstepped, watchedOf}
+use Rattle.direction.specs.Direction.{noDirection, directionNext, beyondBy}
+use Rattle.directions.specs.Directions.{noDirections, directionsNext, overstepped, watchedOf}
 use Rattle.direction_laws.specs.Since.{bound, Beyond}
 use Rattle.direction_laws.proofs.Since as D
 use Rattle.state.specs.declared.State.{State}

@@ -13,9 +13,9 @@ use Rattle.runs.specs.Running.{Running}
 use Rattle.direction.specs.declared.Sign.{Sign}
 use Rattle.direction.specs.declared.Sign.the-variants.{Positive, Negative}
 use Rattle.direction.specs.declared.Direction.{Direction}
-use Rattle.direction.specs.declared.Directions.{Directions}
+use Rattle.directions.specs.declared.Directions.{Directions}
 use Rattle.direction.specs.declared.Watch.the-variants.{On}
-use Rattle.direction.specs.Direction.{noDirections}
+use Rattle.directions.specs.Directions.{noDirections}
 use Rattle.direction_laws.specs.Since.{bound, Beyond}
 use Rattle.state.specs.declared.Given.{Given}
 use Rattle.demand_3.specs.History.{history}

@@ -2,7 +2,7 @@
 use Prim.Native.Nat.{ℕ, zero, suc, _%_, _<_}
 use mathlib.Core.List.{List, [], _∷_, _++_}
 use lib.ListN.{getD}
-use Rattle.direction.specs.declared.Directions.{Directions}
+use Rattle.directions.specs.declared.Directions.{Directions}
 use Rattle.state.specs.declared.State.{State}
 use Rattle.crossing.specs.Words.{signedOf, unsignedOf, Signed, yesFrom, yesWord}
 use Rattle.image_cases.specs.Cases.{previousFrom, previousWords, PreviousFits, watchFrom, watchWords, WatchFits, selectionFrom, selectionWords, SelectionFits, stopFrom, stopWords, StopFits}

@@ -5,7 +5,7 @@ ghost use Prim.Native.Nat.{_<_};
 ghost use Rattle.image.specs.Image.{countFrom, stateFrom};
 use comparison::Fault;
 use direction::Direction;
-use direction::Directions;
+use directions::Directions;
 use nx_signal::Signal;
 use selection::Choice;
 use state::Kept;

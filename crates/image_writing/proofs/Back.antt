@@ -6,7 +6,7 @@ use native.Mathlib.Omega.{arith}
 use Rattle.state.specs.declared.State.{State}
 use Rattle.crossing.proofs.Back.{signed-back, yes-back}
 use Rattle.image_cases.proofs.Back.{byte-back, previous-back, watch-back, selection-back, stop-back}
-use Rattle.direction.specs.declared.Directions.{Directions}
+use Rattle.directions.specs.declared.Directions.{Directions}
 use Rattle.image.specs.Image.{countFrom, directionsFrom, stateFrom, frontWords, directionWords, stateWords, frontIn, directionsIn, Fits, DirectionsFit}
 use Rattle.image_writing.specs.Written.{writtenAs, writing, withDirections, writingFront, DirectionsWritten, directionsAs, writingDirections}
 

@@ -2,7 +2,7 @@
 -- of the directions are written apart: most cycles leave them as they are.
 use Prim.Native.Nat.{ℕ, _%_}
 use mathlib.Core.List.{List, _++_}
-use Rattle.direction.specs.declared.Directions.{Directions}
+use Rattle.directions.specs.declared.Directions.{Directions}
 use Rattle.state.specs.declared.State.{State}
 use Rattle.image.specs.Image.{countFrom, directionsFrom, stateFrom, frontWords, directionWords, stateWords, frontIn, directionsIn}
 

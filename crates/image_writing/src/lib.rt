@@ -1,7 +1,7 @@
 // A channel's state written into its words: what is read from them again is the same state.
 ghost use mathlib.Core.Path.{_≡_};
 ghost use Rattle.image_writing.specs.Written.{writtenAs, writing, writingFront, directionsAs, writingDirections};
-use direction::Directions;
+use directions::Directions;
 use image::Image;
 use image::WORDS;
 use state::State;

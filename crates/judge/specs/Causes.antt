@@ -14,13 +14,14 @@ use Rattle.report.specs.Report.{datumDiffers}
 use Rattle.speed.specs.declared.Step.{Step}
 use Rattle.nx_signal.specs.declared.Signal.{Signal}
 use Rattle.nx_signal.specs.Signal.{signalNext}
-use Rattle.limits.specs.Limits.{standstillLeft, overSpeed, sgRank, outside, seRank, external, holdLeft}
+use Rattle.limits.specs.Limits.{standstillLeft, overSpeed, sgRank, external, holdLeft}
+use Rattle.end_positions.specs.EndPositions.{outside, seRank}
 use Rattle.selection.specs.declared.Choice.{Choice}
 use Rattle.selection.specs.Selection.{selectedOf, choiceNext}
 use Rattle.rank.specs.declared.Rank.the-variants as R
 use Rattle.stop.specs.declared.Stop.{Stop}
-use Rattle.direction.specs.declared.Watched.{Watched}
-use Rattle.direction.specs.Direction.{watchedOf, directionRank}
+use Rattle.directions.specs.declared.Watched.{Watched}
+use Rattle.directions.specs.Directions.{watchedOf, directionRank}
 use Rattle.comparison.specs.declared.Fault.{Fault}
 use Rattle.comparison.specs.Comparison.{positionDiffers, runOf, inputsDiffer, faultNext}
 use Rattle.active.specs.Active.{faultStops}

@@ -5,8 +5,8 @@ ghost use Rattle.judge.specs.Causes.{stepOf, anyDiffers, table, begunOf,
 use causes::Cause;
 use causes::Rows;
 use comparison::Fault;
-use direction::Directions;
-use direction::Watched;
+use directions::Directions;
+use directions::Watched;
 use distance::Previous;
 use inputs::External;
 use inputs::Reading;
@@ -97,8 +97,8 @@ fn rows(
         },
         Cause {
             code: 4,
-            stands: limits::outside(values, reading),
-            rank: limits::se_rank(values),
+            stands: end_positions::outside(values, reading),
+            rank: end_positions::se_rank(values),
         },
         Cause {
             code: 5,
@@ -148,7 +148,7 @@ fn rows(
         Cause {
             code: 14,
             stands: overstepped,
-            rank: direction::rank(values),
+            rank: directions::rank(values),
         },
     ]
 }

@@ -1,14 +1,12 @@
--- Causes 2 to 9: document 01, step 4. 2 and 3 go by the effective selection.
+-- Causes 2, 3 and 5 to 9: document 01, step 4. 2 and 3 go by the effective selection; 4 stands in the crate end_positions.
 use Prim.Native.Nat.{ℕ, _+_, _%_}
-use mathlib.Core.Bool.{Bool, false, not, cond, _&&_, _||_}
+use mathlib.Core.Bool.{Bool, false, not, _&&_}
 use mathlib.Core.List.{List}
 use lib.IntN.{ℤ, natAbs, _-ℤ_}
-use lib.Signed.{ltZ}
 use lib.Dec.{ltb}
-use Rattle.machine_data.specs.Data.{datumOf, numberOf, functionOf}
-use Rattle.inputs.specs.declared.Reading.{Reading}
+use Rattle.machine_data.specs.Data.{numberOf, functionOf}
 use Rattle.inputs.specs.declared.External.{External}
-use Rattle.inputs.specs.Layout.{se2Chosen, externalOff}
+use Rattle.inputs.specs.Layout.{externalOff}
 use Rattle.speed.specs.declared.Step.{Step}
 use Rattle.speed.specs.Speed.{tooFast}
 use Rattle.selection.specs.declared.Selection.{Selection}
@@ -36,18 +34,6 @@ abbrev pub sgRank : List ℤ → Selection → Rank
 sgRank d Nothing = R.None
 sgRank d (Sg n o) = rankFrom (numberOf d (7 + n % 4))
 sgRank d Sbh = R.None
-
--- below datum k or above the one behind it
-abbrev pub beyond : List ℤ → ℤ → ℕ → Bool
-beyond d position k = ltZ position (datumOf d k) || ltZ (datumOf d (k + 1)) position
-
--- "4 SE as chosen by bit 12, position below its minus or above its plus"; "4 to 8 need their function on"
-unfoldable pub outside : List ℤ → Reading → Bool
-outside d r = functionOf d 1 && beyond d (r .position) (cond (se2Chosen (r .inputs)) 13 11)
-
--- "rank by datum 15"
-abbrev pub seRank : List ℤ → Rank
-seRank d = rankFrom (numberOf d 15)
 
 -- "5, 6, 7, 8 external A, C, D, E, its input bit 0"; "4 to 8 need their function on"
 unfoldable pub external : List ℤ → ℕ → External → Bool

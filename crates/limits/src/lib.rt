@@ -1,8 +1,6 @@
-// Causes 2 to 9: whether each stands, and the ranks that data give.
+// Causes 2, 3 and 5 to 9: whether each stands, and the ranks that data give.
 ghost use mathlib.Core.Path.{_≡_};
-ghost use Prim.Native.Nat.{_<_};
-ghost use Rattle.ranges.specs.Table.{dataCount};
-ghost use Rattle.limits.specs.Limits.{standstillLeft, overSpeed, sgRank, beyond, outside, seRank, external, holdLeft};
+ghost use Rattle.limits.specs.Limits.{standstillLeft, overSpeed, sgRank, external, holdLeft};
 use inputs::External;
 use inputs::Reading;
 use machine_data::Values;
@@ -50,39 +48,6 @@ pub fn sg_rank(values: &Values, effective: Selection) -> Rank
         Selection::Sg(n, _) => Rank::from_number(machine_data::sg_stop(values, n)),
         Selection::Sbh => Rank::None,
     }
-}
-
-// Whether a position lies outside the SE whose minus is datum k.
-fn beyond(values: &Values, reading: Reading, k: usize) -> bool
-    requires { ⌜ k < dataCount ⌝ }
-    ensures { λ r. ⌜ r ≡ beyond (now (values .entry)) (reading .position) k ⌝ }
-{
-    if reading.position < machine_data::datum(values, k) {
-        return true;
-    }
-    machine_data::datum(values, k + 1) < reading.position
-}
-
-// Cause 4.
-pub fn outside(values: &Values, reading: Reading) -> bool
-    ensures { λ r. ⌜ r ≡ outside (now (values .entry)) reading ⌝ }
-{
-    if machine_data::function(values, functions::SE) {
-        if inputs::se2_chosen(reading.inputs) {
-            beyond(values, reading, numbers::SE2_MINUS)
-        } else {
-            beyond(values, reading, numbers::SE1_MINUS)
-        }
-    } else {
-        false
-    }
-}
-
-// The rank of cause 4.
-pub fn se_rank(values: &Values) -> Rank
-    ensures { λ r. ⌜ r ≡ seRank (now (values .entry)) ⌝ }
-{
-    Rank::from_number(machine_data::number(values, numbers::SE_STOP))
 }
 
 // Causes 5 to 8.

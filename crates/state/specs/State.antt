@@ -2,7 +2,7 @@
 use mathlib.Core.Bool.{false}
 use lib.IntN.{pos}
 use Rattle.distance.specs.declared.Previous.the-variants.{Absent}
-use Rattle.direction.specs.Direction.{noDirections}
+use Rattle.directions.specs.Directions.{noDirections}
 use Rattle.selection.specs.declared.Selection.the-variants.{Nothing}
 use Rattle.stop.specs.declared.Stop.the-variants.{Free}
 use Rattle.state.specs.declared.State.{State}

@@ -2,7 +2,7 @@
 ghost use mathlib.Core.Path.{_≡_};
 ghost use Rattle.state.specs.State.{freshState};
 use comparison::Fault;
-use direction::Directions;
+use directions::Directions;
 use distance::Previous;
 use inputs::Reading;
 use nx_signal::Signal;

@@ -16,7 +16,9 @@ use Rattle.cams.specs.Cams
 use Rattle.causes.specs.Causes as Rows
 use Rattle.codes_order.specs.Lists
 use Rattle.limits.specs.Limits
+use Rattle.end_positions.specs.EndPositions
 use Rattle.direction.specs.Direction
+use Rattle.directions.specs.Directions
 use Rattle.channel_word.specs.Word as ChannelWord
 use Rattle.judge.specs.Causes
 use Rattle.channel.specs.Cycle
@@ -29,7 +31,7 @@ use Rattle.demand_3.proofs.Answered
 use Rattle.worked.specs.Runs
 
 unfoldable pub the-cycle : Unit {0}
-unfolding Bits.bitOf Bits.fieldOf Data.nearest Data.datumOf Data.numberOf Data.functionOf Data.ratioOf Usable.bitsUsable Usable.usableOf Speed.percentOf Speed.speedOf Speed.tooFast Speed.slowerThan Run.runNext Signal.released Signal.valueNext Signal.belowRun Selection.selectedOf Selection.stricter Selection.choiceNext Stop.stopNext Comparison.positionDiffers Comparison.runOf Comparison.inputsDiffer Report.datumDiffers Comparison.faultNext Comparison.expired Active.active Active.faultStops Cams.signalOf Cams.camOf Cams.camsUpTo Rows.strongestOf Rows.freshOf Lists.wanted Limits.standstillLeft Limits.outside Limits.external Direction.furthest Direction.directionNext Direction.directionsNext Direction.overstepped Direction.watchedOf Causes.choiceIn Causes.differingIn Causes.differencesIn Causes.faultIn Causes.usableRows Causes.rowsOf Cycle.strongestIn Cycle.clearsIn Cycle.enteredIn Cycle.next ChannelWord.wordBy Word.word Device.wordRank Device.deviceRank Device.deviceOf History.givensOf History.history Runs.listOf Runs.cyclesWith
+unfolding Bits.bitOf Bits.fieldOf Data.nearest Data.datumOf Data.numberOf Data.functionOf Data.ratioOf Usable.bitsUsable Usable.usableOf Speed.percentOf Speed.speedOf Speed.tooFast Speed.slowerThan Run.runNext Signal.released Signal.valueNext Signal.belowRun Selection.selectedOf Selection.stricter Selection.choiceNext Stop.stopNext Comparison.positionDiffers Comparison.runOf Comparison.inputsDiffer Report.datumDiffers Comparison.faultNext Comparison.expired Active.active Active.faultStops Cams.signalOf Cams.camOf Cams.camsUpTo Rows.strongestOf Rows.freshOf Lists.wanted Limits.standstillLeft EndPositions.outside Limits.external Direction.furthest Direction.directionNext Directions.directionsNext Directions.overstepped Directions.watchedOf Causes.choiceIn Causes.differingIn Causes.differencesIn Causes.faultIn Causes.usableRows Causes.rowsOf Cycle.strongestIn Cycle.clearsIn Cycle.enteredIn Cycle.next ChannelWord.wordBy Word.word Device.wordRank Device.deviceRank Device.deviceOf History.givensOf History.history Runs.listOf Runs.cyclesWith
 the-cycle = tt
 
 unfoldable pub the-calls : Unit {0}

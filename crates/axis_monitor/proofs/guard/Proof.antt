@@ -3,8 +3,8 @@ use mathlib.Core.Path.{_≡_, sym, ap, _∙_}
 use mathlib.Core.Bool.{true, false}
 use denote.Ref.{now}
 use Rattle.machine_data.specs.Data.{functionOf}
-use Rattle.direction.specs.declared.Directions.{Directions}
-use Rattle.direction.specs.Direction.{overstepped, watchedOf}
+use Rattle.directions.specs.declared.Directions.{Directions}
+use Rattle.directions.specs.Directions.{overstepped, watchedOf}
 use Rattle.image_writing.specs.Written.{writingDirections}
 use borrow.Author.Needs.{needs}
 use Rattle.axis_monitor.proofs.guard.Statement.{statement}

@@ -5,8 +5,8 @@ use lib.IntN.{ℤ}
 use Rattle.machine_data.specs.Data.{functionOf}
 use Rattle.selection.specs.declared.Selection.{Selection}
 use Rattle.selection.specs.Selection.{isEffective}
-use Rattle.comparison.specs.declared.Fault.{Fault}
-use Rattle.comparison.specs.Comparison.{expired}
+use Rattle.fault.specs.declared.Fault.{Fault}
+use Rattle.fault.specs.Fault.{expired}
 
 -- W2: "SBH or SG is effective, or SE or cams are enabled", by the selection that step 3 of this cycle leaves effective
 unfoldable pub active : List ℤ → Selection → Bool

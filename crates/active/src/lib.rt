@@ -1,7 +1,7 @@
 // Cause 13: F's end brings STOP B only where SBH, SG, SE or cams are active.
 ghost use mathlib.Core.Path.{_≡_};
 ghost use Rattle.active.specs.Active.{active, faultStops};
-use comparison::Fault;
+use fault::Fault;
 use machine_data::Values;
 use machine_data::functions;
 use selection::Selection;

@@ -10,7 +10,7 @@ use Rattle.speed.specs.Speed.{slower}
 use Rattle.rank.specs.declared.Rank.{Rank}
 use Rattle.stop.specs.declared.Stop.the-variants.{Cancelled}
 use Rattle.stop.specs.Stop.{stopNext}
-use Rattle.comparison.specs.Comparison.{clearedFault}
+use Rattle.fault.specs.Fault.{clearedFault}
 use Rattle.cams.specs.Cams.{camsNext}
 use Rattle.causes.specs.declared.Summary.{Summary}
 use Rattle.channel_word.specs.Word.{wordBy}

@@ -13,8 +13,8 @@ use Rattle.usable_inputs.specs.Usable.{bitsUsable, usableOf}
 use Rattle.selection.specs.declared.Selection.{Selection}
 use Rattle.selection.specs.Selection.{isEffective, selectedOf}
 use Rattle.selection.proofs.Effective.{effective-one-of}
-use Rattle.comparison.specs.declared.Fault.{Fault}
-use Rattle.comparison.specs.Comparison.{expired}
+use Rattle.fault.specs.declared.Fault.{Fault}
+use Rattle.fault.specs.Fault.{expired}
 use Rattle.active.specs.Active.{active, faultStops}
 use Rattle.seven.specs.declared.CycleRecord.{CycleRecord}
 use Rattle.state.specs.declared.State.{State}

@@ -8,7 +8,7 @@ use Rattle.distance.specs.declared.Previous.the-variants.{Absent}
 use Rattle.usable_inputs.specs.Usable.{bitsUsable, usableOf}
 use Rattle.speed.specs.declared.Step.{Step}
 use Rattle.nx_signal.specs.Signal.{signalNext}
-use Rattle.comparison.specs.Comparison.{faultNext}
+use Rattle.fault.specs.Fault.{faultNext}
 use Rattle.causes.specs.declared.Cause.{Cause}
 use Rattle.causes.specs.Causes.{unusableTable, strongestOf, freshOf}
 use Rattle.state.specs.declared.State.{State}

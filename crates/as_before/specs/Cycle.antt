@@ -12,8 +12,9 @@ use Rattle.nx_signal.specs.Signal.{signalNext}
 use Rattle.rank.specs.declared.Rank.the-variants as R
 use Rattle.stop.specs.declared.Stop.the-variants.{Cancelled}
 use Rattle.directions.specs.declared.Watched.{Watched}
-use Rattle.comparison.specs.declared.Fault.{Fault}
-use Rattle.comparison.specs.Comparison.{positionDiffers, inputsDiffer, faultNext}
+use Rattle.fault.specs.declared.Fault.{Fault}
+use Rattle.comparison.specs.Comparison.{positionDiffers, inputsDiffer}
+use Rattle.fault.specs.Fault.{faultNext}
 use Rattle.causes.specs.declared.Cause.{Cause}
 use Rattle.causes.specs.Causes.{cause, strongestOf, freshOf}
 use Rattle.state.specs.declared.State.{State}

@@ -13,7 +13,7 @@ use Rattle.machine_data.specs.Data.{numberOf, functionOf}
 use Rattle.inputs.specs.declared.Reading.{Reading}
 use Rattle.usable_inputs.specs.Usable.{usableOf}
 use Rattle.selection.specs.Selection.{selectedOf, isEffective}
-use Rattle.comparison.specs.Comparison.{expired}
+use Rattle.fault.specs.Fault.{expired}
 use Rattle.active.specs.Active.{active}
 use Rattle.seven.specs.declared.CycleRecord.{CycleRecord}
 use Rattle.records.specs.Records.{records, logOf}

@@ -23,8 +23,8 @@ use Rattle.causes.specs.declared.Cause.{Cause}
 use Rattle.selection.specs.declared.Selection.{Selection}
 use Rattle.report.specs.declared.Report.{Report}
 use Rattle.report.specs.Report.{nextK, reportOf, datumDiffers}
-use Rattle.comparison.specs.declared.Fault.{Fault}
-use Rattle.comparison.specs.Comparison.{expired}
+use Rattle.fault.specs.declared.Fault.{Fault}
+use Rattle.fault.specs.Fault.{expired}
 use Rattle.active.specs.Active.{faultStops}
 use Rattle.list.specs.declared.ListRead.{ListRead}
 use Rattle.list.specs.Reading.{readList}

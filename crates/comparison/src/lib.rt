@@ -1,19 +1,10 @@
-// The crosswise comparison of the channels, causes 10 and 11: what differs, and F with its time to B. Cause 12 stands in report, 13 in active.
+// The crosswise comparison of the channels, causes 10 and 11: what differs. Cause 12 stands in report; F, which they set, in fault.
 ghost use mathlib.Core.Path.{_≡_};
-ghost use mathlib.Core.Bool.{cond};
-ghost use Prim.Native.Nat.{_-_};
-ghost use Rattle.machine_data.specs.Data.{numberOf};
-ghost use Rattle.comparison.specs.Comparison.{positionDiffers, runOf, inputsDiffer, faultNext, expired, clearedFault};
+ghost use Rattle.comparison.specs.Comparison.{positionDiffers, runOf, inputsDiffer};
 use inputs::Reading;
 use machine_data::Values;
 use machine_data::numbers;
 use report::Report;
-
-// F, and the cycles left of its time.
-pub struct Fault {
-    pub on: bool,
-    pub left: u32,
-}
 
 // Cause 10.
 pub fn position_differs(values: &Values, reading: Reading, report: Report) -> bool
@@ -35,57 +26,4 @@ pub fn inputs_differ(values: &Values, run: u32) -> bool
     ensures { λ r. ⌜ r ≡ inputsDiffer (now (values .entry)) run ⌝ }
 {
     machine_data::cycles(values, numbers::ALLOWED_INPUT_DIFFERENCE) < run
-}
-
-impl Fault {
-    // The cycles left: datum 34 where F is new, else one less.
-    fn count(self, values: &Values, new: bool) -> u32
-        ensures { λ r. ⌜ r ≡ cond new (numberOf (now (values .entry)) 34) (self .left - 1) ⌝ }
-    {
-        let left = self.left;
-        if new {
-            machine_data::cycles(values, numbers::TIME_F)
-        } else if left == 0 {
-            0
-        } else {
-            left - 1
-        }
-    }
-
-    // F after causes 10 to 12 of a usable cycle.
-    pub fn next(self, values: &Values, differs: bool) -> Fault
-        ensures { λ r. ⌜ r ≡ faultNext (now (values .entry)) differs self ⌝ }
-    {
-        if self.on {
-            Fault {
-                on: true,
-                left: self.count(values, false),
-            }
-        } else if differs {
-            Fault {
-                on: true,
-                left: self.count(values, true),
-            }
-        } else {
-            Fault { on: false, left: 0 }
-        }
-    }
-
-    // F off in a cycle that clears.
-    pub fn cleared(self, clears: bool) -> Fault
-        ensures { λ r. ⌜ r ≡ clearedFault clears self ⌝ }
-    {
-        if clears {
-            Fault { on: false, left: 0 }
-        } else {
-            self
-        }
-    }
-
-    // F is on, and its time is over.
-    pub fn expired(self) -> bool
-        ensures { λ r. ⌜ r ≡ expired self ⌝ }
-    {
-        self.on && self.left == 0
-    }
 }

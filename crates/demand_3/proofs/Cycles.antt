@@ -18,7 +18,7 @@ use Rattle.rank.specs.declared.Rank.{Rank}
 use Rattle.rank.specs.declared.Rank.the-variants.{None, A}
 use Rattle.rank.specs.Rank.{rankNumber}
 use Rattle.stop.specs.Stop.{levelOf, outranks}
-use Rattle.comparison.specs.Comparison.{expired, clearedFault}
+use Rattle.fault.specs.Fault.{expired, clearedFault}
 use Rattle.active.specs.Active.{active, faultStops}
 use Rattle.causes.specs.declared.Cause.{Cause}
 use Rattle.causes.specs.Causes.{freshOf, cause}

@@ -10,8 +10,8 @@ use lib.Dec.{T, eqb}
 use lib.IntN.{ℤ}
 use Rattle.machine_data.specs.Data.{numberOf}
 use Rattle.machine_data.proofs.Stands.{number-high}
-use Rattle.comparison.specs.declared.Fault.{Fault}
-use Rattle.comparison.specs.Comparison.{faultNext, expired}
+use Rattle.fault.specs.declared.Fault.{Fault}
+use Rattle.fault.specs.Fault.{faultNext, expired}
 
 pub fault-time-most : (d : List ℤ) → numberOf d 34 ≤ 1000
 fault-time-most d = number-high d 34 1000 (omega arith) refl

@@ -24,7 +24,7 @@ use Rattle.rank.specs.declared.Rank.the-variants.{None}
 use Rattle.stop.specs.declared.Stop.{Stop}
 use Rattle.stop.specs.declared.Stop.the-variants.{Free}
 use Rattle.stop.specs.Stop.{stopNext, levelOf}
-use Rattle.comparison.specs.Comparison.{expired}
+use Rattle.fault.specs.Fault.{expired}
 use Rattle.active.specs.Active.{active, faultStops}
 use Rattle.causes.specs.declared.Cause.{Cause}
 use Rattle.causes.specs.Causes.{strongestOf}

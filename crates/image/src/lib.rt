@@ -3,9 +3,9 @@
 ghost use mathlib.Core.Path.{_≡_};
 ghost use Prim.Native.Nat.{_<_};
 ghost use Rattle.image.specs.Image.{countFrom, stateFrom};
-use comparison::Fault;
 use direction::Direction;
 use directions::Directions;
+use fault::Fault;
 use nx_signal::Signal;
 use selection::Choice;
 use state::Kept;

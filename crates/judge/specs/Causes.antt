@@ -22,8 +22,9 @@ use Rattle.rank.specs.declared.Rank.the-variants as R
 use Rattle.stop.specs.declared.Stop.{Stop}
 use Rattle.directions.specs.declared.Watched.{Watched}
 use Rattle.directions.specs.Directions.{watchedOf, directionRank}
-use Rattle.comparison.specs.declared.Fault.{Fault}
-use Rattle.comparison.specs.Comparison.{positionDiffers, runOf, inputsDiffer, faultNext}
+use Rattle.fault.specs.declared.Fault.{Fault}
+use Rattle.comparison.specs.Comparison.{positionDiffers, runOf, inputsDiffer}
+use Rattle.fault.specs.Fault.{faultNext}
 use Rattle.active.specs.Active.{faultStops}
 use Rattle.causes.specs.declared.Cause.{Cause}
 use Rattle.causes.specs.Causes.{cause, unusableTable}

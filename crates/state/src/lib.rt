@@ -1,9 +1,9 @@
 // What a channel keeps from cycle to cycle, and what it is given in one.
 ghost use mathlib.Core.Path.{_≡_};
 ghost use Rattle.state.specs.State.{freshState};
-use comparison::Fault;
 use directions::Directions;
 use distance::Previous;
+use fault::Fault;
 use inputs::Reading;
 use nx_signal::Signal;
 use report::Report;

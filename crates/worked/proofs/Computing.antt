@@ -11,6 +11,7 @@ use Rattle.nx_signal.specs.Signal
 use Rattle.selection.specs.Selection
 use Rattle.stop.specs.Stop
 use Rattle.comparison.specs.Comparison
+use Rattle.fault.specs.Fault
 use Rattle.active.specs.Active
 use Rattle.cams.specs.Cams
 use Rattle.causes.specs.Causes as Rows
@@ -31,7 +32,7 @@ use Rattle.demand_3.proofs.Answered
 use Rattle.worked.specs.Runs
 
 unfoldable pub the-cycle : Unit {0}
-unfolding Bits.bitOf Bits.fieldOf Data.nearest Data.datumOf Data.numberOf Data.functionOf Data.ratioOf Usable.bitsUsable Usable.usableOf Speed.percentOf Speed.speedOf Speed.tooFast Speed.slowerThan Run.runNext Signal.released Signal.valueNext Signal.belowRun Selection.selectedOf Selection.stricter Selection.choiceNext Stop.stopNext Comparison.positionDiffers Comparison.runOf Comparison.inputsDiffer Report.datumDiffers Comparison.faultNext Comparison.expired Active.active Active.faultStops Cams.signalOf Cams.camOf Cams.camsUpTo Rows.strongestOf Rows.freshOf Lists.wanted Limits.standstillLeft EndPositions.outside Limits.external Direction.furthest Direction.directionNext Directions.directionsNext Directions.overstepped Directions.watchedOf Causes.choiceIn Causes.differingIn Causes.differencesIn Causes.faultIn Causes.usableRows Causes.rowsOf Cycle.strongestIn Cycle.clearsIn Cycle.enteredIn Cycle.next ChannelWord.wordBy Word.word Device.wordRank Device.deviceRank Device.deviceOf History.givensOf History.history Runs.listOf Runs.cyclesWith
+unfolding Bits.bitOf Bits.fieldOf Data.nearest Data.datumOf Data.numberOf Data.functionOf Data.ratioOf Usable.bitsUsable Usable.usableOf Speed.percentOf Speed.speedOf Speed.tooFast Speed.slowerThan Run.runNext Signal.released Signal.valueNext Signal.belowRun Selection.selectedOf Selection.stricter Selection.choiceNext Stop.stopNext Comparison.positionDiffers Comparison.runOf Comparison.inputsDiffer Report.datumDiffers Fault.faultNext Fault.expired Active.active Active.faultStops Cams.signalOf Cams.camOf Cams.camsUpTo Rows.strongestOf Rows.freshOf Lists.wanted Limits.standstillLeft EndPositions.outside Limits.external Direction.furthest Direction.directionNext Directions.directionsNext Directions.overstepped Directions.watchedOf Causes.choiceIn Causes.differingIn Causes.differencesIn Causes.faultIn Causes.usableRows Causes.rowsOf Cycle.strongestIn Cycle.clearsIn Cycle.enteredIn Cycle.next ChannelWord.wordBy Word.word Device.wordRank Device.deviceRank Device.deviceOf History.givensOf History.history Runs.listOf Runs.cyclesWith
 the-cycle = tt
 
 unfoldable pub the-calls : Unit {0}

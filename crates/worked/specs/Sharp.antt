@@ -14,7 +14,7 @@ use Rattle.selection.specs.declared.Selection.the-variants.{Nothing, Sg, Sbh}
 use Rattle.rank.specs.declared.Rank.{Rank}
 use Rattle.rank.specs.declared.Rank.the-variants.{C}
 use Rattle.rank.specs.Rank.{timeOf}
-use Rattle.comparison.specs.declared.Fault.{Fault}
+use Rattle.fault.specs.declared.Fault.{Fault}
 use Rattle.causes.specs.declared.Cause.{Cause}
 use Rattle.state.specs.declared.Given.{Given}
 use Rattle.channel.specs.declared.Channel.{Channel}

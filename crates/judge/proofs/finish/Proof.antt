@@ -3,7 +3,7 @@ use mathlib.Core.Path.{_≡_, ap, _∙_}
 use mathlib.Core.Bool.{Bool}
 use denote.Ref.{now}
 use Rattle.machine_data.specs.Data.{lent}
-use Rattle.comparison.specs.Comparison.{faultNext}
+use Rattle.fault.specs.Fault.{faultNext}
 use Rattle.active.specs.Active.{faultStops}
 use Rattle.judge.specs.declared.Differences.{Differences}
 use Rattle.judge.specs.Causes.{anyDiffers, table, differencesBy, faultBy, rowsBy}

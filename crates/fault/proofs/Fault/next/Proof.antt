@@ -1,8 +1,8 @@
--- `comparison::Fault::next` meets its contract, by its two tests. Assumes nothing.
-use Rattle.comparison.specs.Comparison.{faultNext}
+-- `fault::Fault::next` meets its contract, by its two tests. Assumes nothing.
+use Rattle.fault.specs.Fault.{faultNext}
 use borrow.Author.Needs.{needs}
-use Rattle.comparison.proofs.Fault.next.Statement.{statement}
-use Rattle.comparison.proofs.Fault.next.Tie as tie
+use Rattle.fault.proofs.Fault.next.Statement.{statement}
+use Rattle.fault.proofs.Fault.next.Tie as tie
 
 count-requires : tie.Need-count-requires
 count-requires c κs = search needs

@@ -8,8 +8,8 @@ use borrow.Author.Tests.{eq-eqb, ne-eqb}
 use lib.Dec.{eqb}
 use lib.IntN.{ℤ}
 use Rattle.machine_data.specs.Data.{numberOf}
-use Rattle.comparison.specs.declared.Fault.{Fault}
-use Rattle.comparison.specs.Comparison.{faultNext, expired}
+use Rattle.fault.specs.declared.Fault.{Fault}
+use Rattle.fault.specs.Fault.{faultNext, expired}
 
 module _ (d : List ℤ) (differs : Bool) (f : Fault) where
   -- "10, 11, 12 set F": it is on after a cycle where it was on or one of them stands

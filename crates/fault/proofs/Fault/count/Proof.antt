@@ -1,9 +1,9 @@
--- `comparison::Fault::count` meets its contract, by its two tests. Assumes nothing.
+-- `fault::Fault::count` meets its contract, by its two tests. Assumes nothing.
 use mathlib.Core.Path.{_∙_}
 use native.Mathlib.Omega.{arith}
 use borrow.Author.Needs.{needs}
-use Rattle.comparison.proofs.Fault.count.Statement.{statement}
-use Rattle.comparison.proofs.Fault.count.Tie as tie
+use Rattle.fault.proofs.Fault.count.Statement.{statement}
+use Rattle.fault.proofs.Fault.count.Tie as tie
 
 cycles-requires : tie.Need-cycles-requires
 cycles-requires c κs = search needs

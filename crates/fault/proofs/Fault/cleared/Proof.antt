@@ -1,7 +1,7 @@
--- `comparison::Fault::cleared` meets its contract. Assumes nothing.
+-- `fault::Fault::cleared` meets its contract. Assumes nothing.
 use borrow.Author.Needs.{needs}
-use Rattle.comparison.proofs.Fault.cleared.Statement.{statement}
-use Rattle.comparison.proofs.Fault.cleared.Tie as tie
+use Rattle.fault.proofs.Fault.cleared.Statement.{statement}
+use Rattle.fault.proofs.Fault.cleared.Tie as tie
 
 returns : tie.Need-returns
 returns c = simp (c .if1 .taken)

@@ -10,12 +10,12 @@ from ctypes import CDLL, byref, c_int32, c_size_t, c_uint8, c_uint32
 
 RANKS = "NONE E D C B A".split()
 CAUSES = "- UNUSABLE SBH SG SE STOP-A STOP-C STOP-D STOP-E HOLD POSITION INPUTS DATUM F DIRECTION".split()
-Data, State, Report, Codes = c_int32 * 72, c_uint32 * 25, c_uint32 * 4, c_uint8 * 13
+Data, State, Report, Codes = c_int32 * 72, c_uint32 * 26, c_uint32 * 4, c_uint8 * 13
 
 
 def main(library, kit, cycles=None):
     monitor = CDLL(library)
-    if monitor.monitor_interface() != 6:
+    if monitor.monitor_interface() != 7:
         sys.exit("desk: the library has another interface")
     monitor.monitor_report.argtypes = [Data, State, c_int32, c_uint32, Report]
     monitor.monitor_cycle.argtypes = [Data, State, c_int32, c_uint32, c_uint32, Report, Codes]

@@ -65,6 +65,23 @@ static size_t make(uint32_t call, const uint32_t *in, size_t n, uint32_t *answer
         x->state[in[1] % MONITOR_STATE] = in[2];
         *may = 1u << in[0];
         return 0;
+    case 10: /* ask: channel, position, inputs, the report's four words, words */
+        memset(causes, 255, sizeof causes);
+        y = &before[in[0] % CHANNELS];
+        answer[0] = monitor_ask(in + 7, n - 7, x->state, x->pending, (int32_t)in[1], in[2], in + 3, causes, &at);
+        answer[1] = (uint32_t)at;
+        length = MONITOR_CODES; /* the codes without the zeros behind them; of a refused list those that were changed */
+        while (length > 0 && causes[length - 1] == (answer[0] == 0 ? 0 : 255)) length--;
+        for (i = 0; i < length; i++) answer[2 + i] = causes[i];
+        if (memcmp(x->data, y->data, sizeof x->data) == 0 && memcmp(x->state, y->state, MONITOR_STATE_PENDING * 4) == 0 &&
+            (answer[0] == 0 || (x->state[MONITOR_STATE_PENDING] == 0 && memcmp(x->pending, y->pending, sizeof x->pending) == 0)))
+            *may = 1u << in[0]; /* the pending list, and nothing else */
+        return 2 + length;
+    case 11: /* commit: channel */
+        answer[0] = monitor_commit(x->data, x->state, x->pending, &at);
+        answer[1] = (uint32_t)at;
+        if (answer[0] == 0) *may = 1u << in[0];
+        return 2;
     }
     return NUMBERS; /* a call that is not known agrees with nothing */
 }

@@ -1,4 +1,4 @@
-/* The two-channel axis monitor: the functions of libaxis_monitor.a, and those of libaxis_logs.a below them. C11 or C++11.
+/* The two-channel axis monitor: the functions of libaxis_monitor.a, and those of libaxis_lists.a and libaxis_logs.a below them. C11 or C++11.
    docs/INTEGRATION.md says how to use them. */
 #ifndef AXIS_MONITOR_H
 #define AXIS_MONITOR_H
@@ -6,11 +6,11 @@
 #include <stddef.h>
 #include <stdint.h>
 
-#define MONITOR_INTERFACE 6 /* the number of this interface, which monitor_interface() must answer */
+#define MONITOR_INTERFACE 7 /* the number of this interface, which monitor_interface() must answer */
 
 /* How long the lent arrays are. */
 #define MONITOR_DATA 72   /* machine data of a channel, by their numbers; a shorter list leaves the places behind its data 0 */
-#define MONITOR_STATE 25  /* words of a channel's state */
+#define MONITOR_STATE 26  /* words of a channel's state */
 #define MONITOR_REPORT 4  /* words of a report */
 #define MONITOR_CODES 13  /* cause codes of a cycle */
 #define MONITOR_TOLD 3    /* numbers that tell a kit's refusal */
@@ -22,6 +22,7 @@
 typedef struct monitor_channel {
     int32_t data[MONITOR_DATA];    /* the accepted list */
     uint32_t state[MONITOR_STATE]; /* what it keeps from cycle to cycle */
+    int32_t pending[MONITOR_DATA]; /* the list asked about; it counts while the state's word PENDING is not 0 */
 } monitor_channel;
 
 /* Words of a state; signed numbers stand in two's complement. */
@@ -44,7 +45,7 @@ typedef struct monitor_channel {
 #define MONITOR_STATE_CAMS 16         /* cam signals, SN1+ in bit 0 */
 #define MONITOR_STATE_NX 17           /* 1 if n<nx is 1; worked out while its function is off too, and left as it is by an unusable cycle */
 #define MONITOR_STATE_NX_RUN 18       /* usable cycles running in which the speed was below nx, not counted past 1,001 */
-/* The last six: monitor_cycle leaves them as they are where the inputs are unusable or safe direction is off, and with it off no run and no
+/* These six: monitor_cycle leaves them as they are where the inputs are unusable or safe direction is off, and with it off no run and no
    watch begins; monitor_run_log writes them anew, with the same meaning. */
 #define MONITOR_STATE_POSITIVE_RUN 19     /* usable cycles running in which only positive travel was allowed, not counted past 1,001 */
 #define MONITOR_STATE_POSITIVE_WATCH 20   /* 1 if the watch stands */
@@ -52,6 +53,7 @@ typedef struct monitor_channel {
 #define MONITOR_STATE_NEGATIVE_RUN 22     /* the same three of negative travel */
 #define MONITOR_STATE_NEGATIVE_WATCH 23   /* 1 if the watch stands */
 #define MONITOR_STATE_NEGATIVE_EXTREME 24 /* the lowest position since the watch began, signed; 0 without a watch */
+#define MONITOR_STATE_PENDING 25          /* how many data the pending list has; 0: none is pending */
 
 #define MONITOR_NOTHING 0   /* nothing is effective */
 #define MONITOR_SG 1        /* an SG is effective */
@@ -128,7 +130,7 @@ typedef struct monitor_channel {
 #define MONITOR_CAUSE_F 13        /* F's time is over, and SBH or an SG is effective, or SE or the cams are on */
 #define MONITOR_CAUSE_DIRECTION 14 /* safe direction: too far the forbidden way */
 
-/* Answers of monitor_read_list and monitor_run_log, and told[0] of monitor_run_kit. */
+/* Answers of monitor_read_list, monitor_run_log, monitor_ask and monitor_commit, and told[0] of monitor_run_kit. */
 #define MONITOR_ACCEPTED 0       /* accepted */
 #define MONITOR_REFUSED_WORD 1   /* list word missing, of wrong kind, number or bits */
 #define MONITOR_REFUSED_OPEN 2   /* datum open */
@@ -137,6 +139,7 @@ typedef struct monitor_channel {
 #define MONITOR_REFUSED_SE 5     /* SE minus not below its plus */
 #define MONITOR_REFUSED_LOG 6    /* log too long, or a word missing or wrong */
 #define MONITOR_REFUSED_OUTPUT 7 /* output below 3 words a cycle */
+#define MONITOR_REFUSED_PENDING 8 /* commit with nothing pending */
 
 #define MONITOR_DATUM_T 0              /* number of the datum T, the cycle in ms */
 #define MONITOR_DATUM_NUMERATOR 51     /* number of the first gear ratio's numerator; the others follow it */
@@ -157,8 +160,9 @@ extern "C" {
 #ifndef MONITOR_OWN_BOARD /* a fact of the archives, not of a board that is tried with this header */
 MONITOR_HOLDS(sizeof(size_t) == 8);
 #endif
-MONITOR_HOLDS(sizeof(monitor_channel) == 388);
+MONITOR_HOLDS(sizeof(monitor_channel) == 680);
 MONITOR_HOLDS(offsetof(monitor_channel, state) == 288);
+MONITOR_HOLDS(offsetof(monitor_channel, pending) == 392);
 
 /* The number of the library's interface. */
 uint32_t monitor_interface(void);
@@ -178,6 +182,20 @@ uint32_t monitor_cycle(const int32_t data[MONITOR_DATA], uint32_t state[MONITOR_
 
 /* The device word of two channel words. */
 uint32_t monitor_device_word(uint32_t a, uint32_t b);
+
+/* ---- libaxis_lists.a: new limits without stopping ---- */
+
+/* Asks about a list: MONITOR_ACCEPTED, the list in pending, how many data it has in the state's word PENDING, in *at the words used, and in
+   causes the codes, as monitor_cycle gives them but without 13, of a cycle with this position, inputs and report straight after its commit;
+   or a refusal's number and place: then none is pending, and all else, pending and causes too, is as it was. A list that is pending is
+   dropped by the channel's next cycle, single or in a log. */
+uint32_t monitor_ask(const uint32_t *words, size_t words_len, uint32_t state[MONITOR_STATE], int32_t pending[MONITOR_DATA],
+                     int32_t position, uint32_t inputs, const uint32_t report[MONITOR_REPORT], uint8_t causes[MONITOR_CODES],
+                     size_t *at);
+
+/* Commits the pending list: MONITOR_ACCEPTED, the list in data and in *at how many data it has; the channel goes on with it. With none
+   pending MONITOR_REFUSED_PENDING, *at 0 and the channel as it was. */
+uint32_t monitor_commit(int32_t data[MONITOR_DATA], uint32_t state[MONITOR_STATE], const int32_t pending[MONITOR_DATA], size_t *at);
 
 /* ---- libaxis_logs.a: recorded logs and kits ---- */
 

@@ -6,9 +6,10 @@ use std::path::{Path, PathBuf};
 use std::process::Command;
 
 /// The archives, and the variables that tell the tests where they are.
-const ARCHIVES: [(&str, &str); 2] = [
+const ARCHIVES: [(&str, &str); 3] = [
     ("axis_monitor", "MONITOR_ARCHIVE"),
     ("axis_logs", "MONITOR_LOGS_ARCHIVE"),
+    ("axis_lists", "MONITOR_LISTS_ARCHIVE"),
 ];
 
 /// Names the folder that holds the archives.
@@ -17,8 +18,8 @@ const FOLDER: &str = "MONITOR_ARCHIVE_DIR";
 /// Names the folder that holds the earlier ones.
 const FOLDER_BEFORE: &str = "MONITOR_BEFORE_DIR";
 
-/// The functions of both archives; of the earlier ones with `before_` in front of the name.
-const FUNCTIONS: [&str; 8] = [
+/// The functions of all archives; of the earlier ones with `before_` in front of the name.
+const FUNCTIONS: [&str; 10] = [
     "monitor_interface",
     "monitor_read_list",
     "monitor_report",
@@ -27,6 +28,8 @@ const FUNCTIONS: [&str; 8] = [
     "monitor_run_log",
     "monitor_list_kit",
     "monitor_run_kit",
+    "monitor_ask",
+    "monitor_commit",
 ];
 
 fn main() {
@@ -54,7 +57,7 @@ fn folder(named: &str) -> PathBuf {
     Path::new(&env::var("CARGO_MANIFEST_DIR").unwrap_or_default()).join(named)
 }
 
-/// Links the earlier archives, renamed by `objcopy`.
+/// Links the earlier archives, as many as there are, renamed by `objcopy`.
 fn before() {
     let named = env::var(FOLDER_BEFORE).unwrap_or_else(|_| panic!("{FOLDER_BEFORE} is not set"));
     let (folder, out) = (
@@ -65,6 +68,9 @@ fn before() {
     for (name, _) in ARCHIVES {
         let archive = folder.join(format!("lib{name}.a"));
         println!("cargo:rerun-if-changed={}", archive.display());
+        if !archive.exists() {
+            continue;
+        }
         let mut objcopy = Command::new("objcopy");
         for function in FUNCTIONS {
             objcopy.arg(format!("--redefine-sym={function}=before_{function}"));

@@ -9,6 +9,10 @@ use crate::nx::Nx;
 use crate::selection::{Selection, Selections};
 use crate::stop::{Rank, Stop};
 
+pub mod ask;
+
+pub mod commit;
+
 pub mod image;
 
 /// The input bits that have a meaning in every list: "Every other bit must be 0."
@@ -145,7 +149,8 @@ impl Channel {
         }
     }
 
-    /// "One cycle of a channel"
+    /// "One cycle of a channel". A function of its own, as the library's is: what asks for a cycle elsewhere leaves its code as it is.
+    #[inline(never)]
     pub fn cycle(
         &mut self,
         position: i32,

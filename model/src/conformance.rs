@@ -14,7 +14,7 @@ use std::io;
 use std::path::Path;
 
 /// The requests of document 02 that have landed: those that a kit may quote.
-pub const LANDED: &[&str] = &["W1", "W2", "W3", "W4", "W5", "W6"];
+pub const LANDED: &[&str] = &["W1", "W2", "W3", "W4", "W5", "W6", "W7"];
 
 /// What may stand in the folder beside the kits.
 pub(crate) const PAGE: &str = "README.md";

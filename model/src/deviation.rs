@@ -1,4 +1,4 @@
-//! Readings of document 01 and of requests W1 to W6: the papers themselves, and single deviations from them.
+//! Readings of document 01 and of requests W1 to W7: the papers themselves, and single deviations from them.
 //!
 //! A function of the model takes a reading. [`Paper`] never deviates and costs nothing;
 //! [`Deviant`] is wrong in one place, so that kits can be tried for whether they notice.
@@ -9,11 +9,11 @@
 //!   is 5 from there until a cycle clears, and that puts all of them off;
 //! - whether cause 13 stands in a cycle after one in which it stood, or behind an unusable one:
 //!   the rank is 4 or 5 until a cycle clears, and that puts F off;
-//! - cam signals, or value and run of n<nx, left as they are while their function is off: a list never changes;
+//! - cam signals, or value and run of n<nx, left as they are while their function is off: in a kit a list never changes;
 //! - the run of n<nx counted no further than one past datum 68, or ended where n<nx is 1: n<nx goes to 0 only where the
-//!   run ends all the same, and datum 68 never changes;
+//!   run ends all the same, and in a kit datum 68 never changes;
 //! - runs, watches and extremes of safe direction kept while its function is off, the run counted no further in a watch, or
-//!   a watch that is only "run > delay": a list never changes;
+//!   a watch that is only "run > delay": in a kit a list never changes;
 //! - cause 14 looked at before the extreme takes in the position: there it lies at the extreme, not behind it;
 //! - what a shorter list has as tolerance, delay and stop: its function is off;
 //! - |d| × 60 divided by T before it is compared with nx or the shutdown speed: for whole n,
@@ -25,6 +25,8 @@
 //! - limit × percent × T × denominator divided by the numerator before |d| × 6000 is compared with it, or |d| × numerator
 //!   × 60 divided by the denominator before nx or the shutdown speed is: as above, for a quotient rounded down;
 //! - the own head in a report in place of the other channel's: in a log it is that heads are not compared.
+//!
+//! A kit has no asks and no commits: the deviations from request W7 stand apart, and scripts tell them.
 
 /// How document 01 is read.
 pub trait Reading: Copy {
@@ -64,30 +66,30 @@ macro_rules! paper {
 pub(crate) use paper;
 
 macro_rules! deviations {
-    ($($name:ident: $what:literal, $breaks:literal;)*) => {
+    ($($(#[$of:meta])* $list:ident { $($name:ident: $what:literal, $breaks:literal;)* })*) => {
         /// One thing done otherwise than document 01 says.
         #[derive(Clone, Copy, Debug, PartialEq, Eq, PartialOrd, Ord, Hash)]
         pub enum Deviation {
-            $(#[doc = $what] $name,)*
+            $($(#[doc = $what] $name,)*)*
         }
 
         impl Deviation {
-            /// Every deviation, in document 01's order.
-            pub const ALL: &'static [Deviation] = &[$(Deviation::$name,)*];
+            $($(#[$of])*
+            pub const $list: &'static [Deviation] = &[$(Deviation::$name,)*];)*
 
             /// What the deviating program does.
             pub fn what(self) -> &'static str {
-                match self { $(Deviation::$name => $what,)* }
+                match self { $($(Deviation::$name => $what,)*)* }
             }
 
             /// The sentence that it breaks.
             pub fn breaks(self) -> &'static str {
-                match self { $(Deviation::$name => $breaks,)* }
+                match self { $($(Deviation::$name => $breaks,)*)* }
             }
 
             /// Its name.
             pub fn name(self) -> &'static str {
-                match self { $(Deviation::$name => stringify!($name),)* }
+                match self { $($(Deviation::$name => stringify!($name),)*)* }
             }
         }
     };
@@ -95,6 +97,8 @@ macro_rules! deviations {
 
 // Name: "what the program does", "the sentence that it breaks";
 deviations! {
+    /// Every deviation that a kit can tell, in document 01's order.
+    ALL {
     // Whole programs that must be thrown out.
     RestsInStopA: "the monitor rests in STOP A", "Must be thrown out: a monitor resting in STOP A";
     ReaderAlwaysRefuses: "the list reader refuses every list", "Must be thrown out: a list reader always refusing";
@@ -879,4 +883,167 @@ deviations! {
     RefusalOfLogSaysB: "a refusal of the log says B", "`refused`, number, place (both decimal) and A, B or L";
     RefusalCapital: "a refusal begins with a capital", "`refused`, number, place (both decimal) and A, B or L";
     RefusalLineFeedLost: "a refusal has no line feed", "a line feed ends each line";
+    }
+
+    /// Every deviation from request W7, in the order of its sentences: scripts of calls tell them.
+    OF_CALLS {
+    // Asking.
+    AskRefusesWordsBehind: "an ask refuses words behind the list", "The words behind list A are handed on as list B";
+    AskCountsWordsBehind: "an ask counts the words behind the list among those used", "The words behind list A are handed on as list B";
+    AskRefusesOtherHead: "an ask refuses every head but 51", "W7: the channel tells the refusal, or the fresh causes that a cycle with a given position, inputs and report would have straight after its commit, and keeps the list pending";
+    AskByListInForce: "an ask tells the causes by the list in force", "W7: the channel tells the refusal, or the fresh causes that a cycle with a given position, inputs and report would have straight after its commit, and keeps the list pending";
+    AskByNewChannel: "an ask tells the causes of a fresh channel with the list", "W7: the channel tells the refusal, or the fresh causes that a cycle with a given position, inputs and report would have straight after its commit, and keeps the list pending";
+    AskWithoutCommit: "an ask takes the data alone, without what a commit does besides", "W7: the channel tells the refusal, or the fresh causes that a cycle with a given position, inputs and report would have straight after its commit, and keeps the list pending";
+    AskWithoutCuts: "an ask tells the causes with the counts uncut", "W7: the channel tells the refusal, or the fresh causes that a cycle with a given position, inputs and report would have straight after its commit, and keeps the list pending";
+    AskByOldK: "an ask tells the causes by the k before the commit", "W7: the channel tells the refusal, or the fresh causes that a cycle with a given position, inputs and report would have straight after its commit, and keeps the list pending";
+    AskUsableByListInForce: "an ask takes the inputs as unusable by the list in force too", "W7: the channel tells the refusal, or the fresh causes that a cycle with a given position, inputs and report would have straight after its commit, and keeps the list pending";
+    AskComparesOldHead: "an ask compares the report with the head in force", "W7: the channel tells the refusal, or the fresh causes that a cycle with a given position, inputs and report would have straight after its commit, and keeps the list pending";
+    AskComparesNoHead: "an ask compares no heads", "W7: the channel tells the refusal, or the fresh causes that a cycle with a given position, inputs and report would have straight after its commit, and keeps the list pending";
+    AskComparesOldDatum: "an ask compares the report with the datum in force", "W7: the channel tells the refusal, or the fresh causes that a cycle with a given position, inputs and report would have straight after its commit, and keeps the list pending";
+    AskComparesNoDatum: "an ask compares no datum", "W7: the channel tells the refusal, or the fresh causes that a cycle with a given position, inputs and report would have straight after its commit, and keeps the list pending";
+    AskComparesNoPosition: "an ask compares no positions", "W7: the channel tells the refusal, or the fresh causes that a cycle with a given position, inputs and report would have straight after its commit, and keeps the list pending";
+    AskComparesNoInputs: "an ask compares no inputs", "W7: the channel tells the refusal, or the fresh causes that a cycle with a given position, inputs and report would have straight after its commit, and keeps the list pending";
+    AskTells13: "an ask tells 13 too", "W7: the channel tells the refusal, or the fresh causes that a cycle with a given position, inputs and report would have straight after its commit, and keeps the list pending";
+    AskTellsRankedOnly: "an ask tells no cause without a rank", "W7: the channel tells the refusal, or the fresh causes that a cycle with a given position, inputs and report would have straight after its commit, and keeps the list pending";
+    AskLeavesOut14: "an ask does not tell 14", "W7: the channel tells the refusal, or the fresh causes that a cycle with a given position, inputs and report would have straight after its commit, and keeps the list pending";
+    AskLeavesOut9: "an ask does not tell 9", "W7: the channel tells the refusal, or the fresh causes that a cycle with a given position, inputs and report would have straight after its commit, and keeps the list pending";
+    AskTellsByCode: "an ask tells the codes by their numbers", "W4: Within a cycle the codes now stand strongest rank first, those without a rank last, and equal ranks by code.";
+    AskTellsWeakestFirst: "an ask tells the codes the other way about", "W4: Within a cycle the codes now stand strongest rank first, those without a rank last, and equal ranks by code.";
+    AskTellsStrongestOnly: "an ask tells one code", "W7: the channel tells the refusal, or the fresh causes that a cycle with a given position, inputs and report would have straight after its commit, and keeps the list pending";
+    AskKeepsNone: "an ask keeps no list", "W7: the channel tells the refusal, or the fresh causes that a cycle with a given position, inputs and report would have straight after its commit, and keeps the list pending";
+    AskKeepsFirstList: "a second ask does not take the place of the first", "W7: the channel tells the refusal, or the fresh causes that a cycle with a given position, inputs and report would have straight after its commit, and keeps the list pending";
+    AskKeepsNoneWithCauses: "an ask keeps no list that would find a cause", "W7: the channel tells the refusal, or the fresh causes that a cycle with a given position, inputs and report would have straight after its commit, and keeps the list pending";
+    AskKeepsNoneUnusable: "an ask keeps no list by which the inputs are unusable", "W7: the channel tells the refusal, or the fresh causes that a cycle with a given position, inputs and report would have straight after its commit, and keeps the list pending";
+    AskLeavesDataBehind: "an ask leaves what stands behind the data of a shorter list", "W1: in a shorter list they count as 0";
+    AskCounts51: "an ask counts 51 data of every list", "W7: the channel tells the refusal, or the fresh causes that a cycle with a given position, inputs and report would have straight after its commit, and keeps the list pending";
+    AskCountsMost: "an ask counts 72 data of every list", "W7: the channel tells the refusal, or the fresh causes that a cycle with a given position, inputs and report would have straight after its commit, and keeps the list pending";
+    AskCommits: "an ask commits the list", "W7: the channel tells the refusal, or the fresh causes that a cycle with a given position, inputs and report would have straight after its commit, and keeps the list pending";
+    AskRunsCycle: "an ask runs the cycle", "W7: the channel tells the refusal, or the fresh causes that a cycle with a given position, inputs and report would have straight after its commit, and keeps the list pending";
+    AskCountsK: "an ask is a cycle for k", "W7: the channel tells the refusal, or the fresh causes that a cycle with a given position, inputs and report would have straight after its commit, and keeps the list pending";
+    AskTakesPrevious: "an ask takes the position as the previous one", "W7: the channel tells the refusal, or the fresh causes that a cycle with a given position, inputs and report would have straight after its commit, and keeps the list pending";
+    AskSetsF: "an ask sets F", "W7: the channel tells the refusal, or the fresh causes that a cycle with a given position, inputs and report would have straight after its commit, and keeps the list pending";
+    AskEndsRun: "an ask ends the run of differing inputs", "W7: the channel tells the refusal, or the fresh causes that a cycle with a given position, inputs and report would have straight after its commit, and keeps the list pending";
+    RefusedAskKeepsPending: "a refused ask leaves the list before it pending", "W7: a refused list leaves none pending, all else unaltered";
+    RefusedAskClearsArray: "a refused ask clears the array of the list asked about", "W7: a refused list leaves none pending, all else unaltered";
+    RefusedAskCountsK: "a refused ask is a cycle for k", "W7: a refused list leaves none pending, all else unaltered";
+    RefusedAskForgetsPrevious: "a refused ask forgets the previous position", "W7: a refused list leaves none pending, all else unaltered";
+    RefusedAskEndsDelay: "a refused ask ends the count of a lower selection", "W7: a refused list leaves none pending, all else unaltered";
+    // Dropping.
+    PendingOutlivesSingle: "a single usable cycle leaves the list pending", "W7: Any cycle in between drops it.";
+    PendingOutlivesUnusable: "an unusable cycle leaves the list pending", "W7: Any cycle in between drops it.";
+    PendingOutlivesSingleUnusable: "a single unusable cycle leaves the list pending", "W7: Any cycle in between drops it.";
+    PendingOutlivesAcknowledged: "an acknowledged cycle leaves the list pending", "W7: Any cycle in between drops it.";
+    PendingOutlivesLog: "the cycles of a log leave the list pending", "W7: Any cycle in between drops it.";
+    PendingOutlivesLogOfA: "the cycles of a log leave the list of A pending", "W7: Any cycle in between drops it.";
+    PendingOutlivesLogOfB: "the cycles of a log leave the list of B pending", "W7: Any cycle in between drops it.";
+    PendingOutlivesUnusableInLog: "the unusable cycles of a log leave the list pending", "W7: Any cycle in between drops it.";
+    PendingOutlivesCycles: "no cycle drops the list", "W7: Any cycle in between drops it.";
+    PendingOutlivesList: "an accepted list leaves the one asked about before it pending", "W7: Any cycle in between drops it.";
+    PendingDroppedByRefusedList: "a refused list of a new channel drops the one asked about", "list word missing, of wrong kind, number or bits | 1 | place | everything";
+    PendingDroppedByEmptyLog: "a log without a cycle drops the list", "W7: Any cycle in between drops it.";
+    PendingDroppedByEmptyLogAsB: "a log without a cycle drops the list of B", "W7: Any cycle in between drops it.";
+    PendingDroppedBy6: "a log refused with 6 drops the list", "W7: Any cycle in between drops it.";
+    PendingDroppedBy7: "a log refused with 7 drops the list", "W7: Any cycle in between drops it.";
+    PendingDroppedByRefusedAsB: "a refused log drops the list of B", "W7: Any cycle in between drops it.";
+    // Committing: the list.
+    CommitStaysPending: "a commit leaves the list pending", "W7: A commit takes the pending list, and an effective SG reads its limit and percent there.";
+    CommitTells0: "a commit tells no number of data", "W7: A commit takes the pending list, and an effective SG reads its limit and percent there.";
+    CommitLeavesDataBehind: "a commit leaves the data behind those of a shorter list", "W1: in a shorter list they count as 0";
+    CommitKeepsCount: "a commit makes a list of 51 data of every one", "W7: A commit takes the pending list, and an effective SG reads its limit and percent there.";
+    CommitKeepsSgLimit: "an effective SG keeps its limit", "W7: A commit takes the pending list, and an effective SG reads its limit and percent there.";
+    CommitKeepsPercent: "an effective SG keeps its percent", "W7: A commit takes the pending list, and an effective SG reads its limit and percent there.";
+    CommitKeepsSgStop: "an effective SG keeps its stop", "W7: A commit takes the pending list, and an effective SG reads its limit and percent there.";
+    CommitKeepsT: "a commit leaves T", "W7: A commit takes the pending list, and an effective SG reads its limit and percent there.";
+    CommitKeepsFunctions: "a commit leaves the functions", "W7: A commit takes the pending list, and an effective SG reads its limit and percent there.";
+    EmptyCommitAccepted: "a commit with nothing pending is accepted", "W7: 8, place 0: commit with nothing pending; the channel is unaltered.";
+    EmptyCommitIs7: "a commit with nothing pending is refused with 7", "W7: 8, place 0: commit with nothing pending; the channel is unaltered.";
+    EmptyCommitIs1: "a commit with nothing pending is refused with 1", "W7: 8, place 0: commit with nothing pending; the channel is unaltered.";
+    EmptyCommitAtCount: "a commit with nothing pending is refused with the number of data as its place", "W7: 8, place 0: commit with nothing pending; the channel is unaltered.";
+    EmptyCommitTakesArray: "a commit with nothing pending takes the list asked about last", "W7: 8, place 0: commit with nothing pending; the channel is unaltered.";
+    EmptyCommitForgetsPrevious: "a commit with nothing pending forgets the previous position", "W7: 8, place 0: commit with nothing pending; the channel is unaltered.";
+    EmptyCommitEndsDelay: "a commit with nothing pending ends the count of a lower selection", "W7: 8, place 0: commit with nothing pending; the channel is unaltered.";
+    EmptyCommitKTo0: "a commit with nothing pending puts k to 0", "W7: 8, place 0: commit with nothing pending; the channel is unaltered.";
+    // Committing: what goes on.
+    CommitMakesNew: "a commit makes a fresh channel", "W7: Rank, hold, F, references, cams, k and, but for what W6 ends with bit 5 off, all else that a channel keeps go on, k from 0 if it is past the new last datum";
+    CommitKeepsK: "a commit leaves k past the new last datum", "W7: Rank, hold, F, references, cams, k and, but for what W6 ends with bit 5 off, all else that a channel keeps go on, k from 0 if it is past the new last datum";
+    CommitKTo0: "every commit puts k to 0", "W7: Rank, hold, F, references, cams, k and, but for what W6 ends with bit 5 off, all else that a channel keeps go on, k from 0 if it is past the new last datum";
+    CommitKTo0ByHead: "a commit of another head puts k to 0", "W7: Rank, hold, F, references, cams, k and, but for what W6 ends with bit 5 off, all else that a channel keeps go on, k from 0 if it is past the new last datum";
+    CommitKeepsKAtHead: "a commit leaves k one past the new last datum", "W7: Rank, hold, F, references, cams, k and, but for what W6 ends with bit 5 off, all else that a channel keeps go on, k from 0 if it is past the new last datum";
+    CommitLastKTo0: "a commit puts k to 0 at the new last datum", "W7: Rank, hold, F, references, cams, k and, but for what W6 ends with bit 5 off, all else that a channel keeps go on, k from 0 if it is past the new last datum";
+    CommitKToLast: "a commit puts k to the new last datum", "W7: Rank, hold, F, references, cams, k and, but for what W6 ends with bit 5 off, all else that a channel keeps go on, k from 0 if it is past the new last datum";
+    CommitKByRest: "a commit puts k to what is left of it by the new head", "W7: Rank, hold, F, references, cams, k and, but for what W6 ends with bit 5 off, all else that a channel keeps go on, k from 0 if it is past the new last datum";
+    CommitKRises: "a commit is a cycle for k", "W7: Rank, hold, F, references, cams, k and, but for what W6 ends with bit 5 off, all else that a channel keeps go on, k from 0 if it is past the new last datum";
+    CommitForgetsPrevious: "a commit forgets the previous position", "W7: Rank, hold, F, references, cams, k and, but for what W6 ends with bit 5 off, all else that a channel keeps go on, k from 0 if it is past the new last datum";
+    CommitTakesPreviousAs0: "a commit puts the previous position to 0", "W7: Rank, hold, F, references, cams, k and, but for what W6 ends with bit 5 off, all else that a channel keeps go on, k from 0 if it is past the new last datum";
+    CommitPutsCamsTo0: "a commit puts the cams to 0", "W7: Rank, hold, F, references, cams, k and, but for what W6 ends with bit 5 off, all else that a channel keeps go on, k from 0 if it is past the new last datum";
+    CommitPutsCamsTo0ByFunction: "a commit without function 2 puts the cams to 0", "W7: Rank, hold, F, references, cams, k and, but for what W6 ends with bit 5 off, all else that a channel keeps go on, k from 0 if it is past the new last datum";
+    CommitPutsNxTo0: "a commit puts the value of n<nx to 0", "W7: Rank, hold, F, references, cams, k and, but for what W6 ends with bit 5 off, all else that a channel keeps go on, k from 0 if it is past the new last datum";
+    CommitPutsNxTo0ByFunction: "a commit without function 3 puts value and run of n<nx to 0", "W7: Rank, hold, F, references, cams, k and, but for what W6 ends with bit 5 off, all else that a channel keeps go on, k from 0 if it is past the new last datum";
+    CommitEndsSelection: "a commit ends the effective selection", "W7: Rank, hold, F, references, cams, k and, but for what W6 ends with bit 5 off, all else that a channel keeps go on, k from 0 if it is past the new last datum";
+    CommitEndsSelectionByFunction: "a commit without function 0 ends the effective selection at once", "W7: Rank, hold, F, references, cams, k and, but for what W6 ends with bit 5 off, all else that a channel keeps go on, k from 0 if it is past the new last datum";
+    CommitNextIsFirst: "the first selection after a commit becomes effective at once", "W7: Rank, hold, F, references, cams, k and, but for what W6 ends with bit 5 off, all else that a channel keeps go on, k from 0 if it is past the new last datum";
+    CommitLosesOverride: "a commit takes the override number as 0", "W7: Rank, hold, F, references, cams, k and, but for what W6 ends with bit 5 off, all else that a channel keeps go on, k from 0 if it is past the new last datum";
+    CommitLosesSbhReference: "a commit puts the reference of SBH to 0", "W7: Rank, hold, F, references, cams, k and, but for what W6 ends with bit 5 off, all else that a channel keeps go on, k from 0 if it is past the new last datum";
+    CommitPutsFOff: "a commit puts F off", "W7: Rank, hold, F, references, cams, k and, but for what W6 ends with bit 5 off, all else that a channel keeps go on, k from 0 if it is past the new last datum";
+    CommitPutsFOn: "a commit puts F on", "W7: Rank, hold, F, references, cams, k and, but for what W6 ends with bit 5 off, all else that a channel keeps go on, k from 0 if it is past the new last datum";
+    CommitClears: "a commit clears the stop", "W7: A commit never lowers a stop";
+    CommitClearsBraking: "a commit clears a stop that is not held", "W7: A commit never lowers a stop";
+    CommitLowersA: "a commit makes STOP B of STOP A", "W7: A commit never lowers a stop";
+    CommitLowersToStopOfSg1: "a commit lowers the rank to the stop of SG1", "W7: A commit never lowers a stop";
+    CommitReleasesHold: "a commit begins the time of a held stop anew", "W7: Rank, hold, F, references, cams, k and, but for what W6 ends with bit 5 off, all else that a channel keeps go on, k from 0 if it is past the new last datum";
+    CommitLosesHoldReference: "a commit puts the hold's reference to 0", "W7: Rank, hold, F, references, cams, k and, but for what W6 ends with bit 5 off, all else that a channel keeps go on, k from 0 if it is past the new last datum";
+    CommitKeepsDirections: "a commit without function 5 leaves runs and watches", "W7: Rank, hold, F, references, cams, k and, but for what W6 ends with bit 5 off, all else that a channel keeps go on, k from 0 if it is past the new last datum";
+    CommitEndsDirectionsInCycle: "a commit without function 5 leaves runs and watches to the next cycle", "W7: Rank, hold, F, references, cams, k and, but for what W6 ends with bit 5 off, all else that a channel keeps go on, k from 0 if it is past the new last datum";
+    CommitEndsDirectionsBelow72: "a commit without function 5 ends runs and watches in a shorter list only", "W7: Rank, hold, F, references, cams, k and, but for what W6 ends with bit 5 off, all else that a channel keeps go on, k from 0 if it is past the new last datum";
+    CommitEndsDirectionsAt72: "a commit without function 5 ends runs and watches in a list of 72 data only", "W7: Rank, hold, F, references, cams, k and, but for what W6 ends with bit 5 off, all else that a channel keeps go on, k from 0 if it is past the new last datum";
+    CommitKeepsWatches: "a commit without function 5 ends the runs alone", "W7: Rank, hold, F, references, cams, k and, but for what W6 ends with bit 5 off, all else that a channel keeps go on, k from 0 if it is past the new last datum";
+    CommitKeepsDirectionRuns: "a commit without function 5 ends the watches alone", "W7: Rank, hold, F, references, cams, k and, but for what W6 ends with bit 5 off, all else that a channel keeps go on, k from 0 if it is past the new last datum";
+    CommitKeepsPositive: "a commit without function 5 ends run and watch of the negative direction alone", "W7: Rank, hold, F, references, cams, k and, but for what W6 ends with bit 5 off, all else that a channel keeps go on, k from 0 if it is past the new last datum";
+    CommitKeepsNegative: "a commit without function 5 ends run and watch of the positive direction alone", "W7: Rank, hold, F, references, cams, k and, but for what W6 ends with bit 5 off, all else that a channel keeps go on, k from 0 if it is past the new last datum";
+    CommitEndsDirections: "every commit ends runs and watches of safe direction", "W7: Rank, hold, F, references, cams, k and, but for what W6 ends with bit 5 off, all else that a channel keeps go on, k from 0 if it is past the new last datum";
+    CommitEndsWatches: "every commit ends the watches of safe direction", "W7: Rank, hold, F, references, cams, k and, but for what W6 ends with bit 5 off, all else that a channel keeps go on, k from 0 if it is past the new last datum";
+    CommitEndsDirectionRuns: "every commit ends the runs of safe direction", "W7: Rank, hold, F, references, cams, k and, but for what W6 ends with bit 5 off, all else that a channel keeps go on, k from 0 if it is past the new last datum";
+    CommitBeginsWatchesAnew: "a commit begins and ends watches by the new delay", "W7: Rank, hold, F, references, cams, k and, but for what W6 ends with bit 5 off, all else that a channel keeps go on, k from 0 if it is past the new last datum";
+    CommitSetsExtremes: "a commit puts the extremes to the previous position", "W7: Rank, hold, F, references, cams, k and, but for what W6 ends with bit 5 off, all else that a channel keeps go on, k from 0 if it is past the new last datum";
+    // Committing: what is cut.
+    CommitEndsRun: "a commit ends the run of differing inputs", "W7: falling counts above the new datum are cut to it, runs are not";
+    CommitCutsRun: "a commit cuts the run of differing inputs to datum 28", "W7: falling counts above the new datum are cut to it, runs are not";
+    CommitEndsNxRun: "a commit ends the run of n<nx", "W7: falling counts above the new datum are cut to it, runs are not";
+    CommitCutsNxRun: "a commit cuts the run of n<nx to datum 68", "W7: falling counts above the new datum are cut to it, runs are not";
+    CommitCutsDirectionRuns: "a commit cuts the runs of safe direction to datum 70", "W7: falling counts above the new datum are cut to it, runs are not";
+    CommitKeepsDelay: "a commit leaves the count of a lower selection", "W7: falling counts above the new datum are cut to it, runs are not";
+    CommitSetsDelay: "a commit sets the count of a lower selection anew", "W7: falling counts above the new datum are cut to it, runs are not";
+    CommitRaisesDelayOnly: "a commit raises the count of a lower selection to datum 27", "W7: falling counts above the new datum are cut to it, runs are not";
+    CommitBeginsDelay: "a commit begins a count of a lower selection where none runs", "W7: falling counts above the new datum are cut to it, runs are not";
+    CommitEndsDelay: "a commit ends the count of a lower selection", "W7: falling counts above the new datum are cut to it, runs are not";
+    CommitCutsDelayTo0: "a commit cuts the count of a lower selection to 0, from where it is set anew", "W7: falling counts above the new datum are cut to it, runs are not";
+    CommitCutsDelayTo1More: "a commit cuts the count of a lower selection to one more than datum 27", "W7: falling counts above the new datum are cut to it, runs are not";
+    CommitCutsDelayTo1Less: "a commit cuts the count of a lower selection to one less than datum 27", "W7: falling counts above the new datum are cut to it, runs are not";
+    CommitLessensDelay: "a commit takes from the count of a lower selection what datum 27 is less", "W7: falling counts above the new datum are cut to it, runs are not";
+    CommitKeepsFCount: "a commit leaves F's count", "W7: falling counts above the new datum are cut to it, runs are not";
+    CommitCutsFCountOnlyOn: "a commit cuts F's count only while F is on", "W7: falling counts above the new datum are cut to it, runs are not";
+    CommitSetsFCount: "a commit sets F's count anew", "W7: falling counts above the new datum are cut to it, runs are not";
+    CommitSetsFCountAbove0: "a commit sets F's count anew while it runs", "W7: falling counts above the new datum are cut to it, runs are not";
+    CommitCutsFCountTo1: "a commit cuts F's count to 1 at least", "W7: falling counts above the new datum are cut to it, runs are not";
+    CommitCutsFCountTo1More: "a commit cuts F's count to one more than datum 34", "W7: falling counts above the new datum are cut to it, runs are not";
+    CommitCutsFCountTo1Less: "a commit cuts F's count to one less than datum 34", "W7: falling counts above the new datum are cut to it, runs are not";
+    CommitPutsFCountTo0: "a commit puts F's count to 0", "W7: falling counts above the new datum are cut to it, runs are not";
+    CommitCutsFCountByB: "a commit cuts F's count to datum 32", "W7: falling counts above the new datum are cut to it, runs are not";
+    CommitKeepsStopCount: "a commit leaves a stop's count", "W7: falling counts above the new datum are cut to it, runs are not";
+    CommitKeepsCountOfC: "a commit leaves the count of STOP C", "W7: falling counts above the new datum are cut to it, runs are not";
+    CommitKeepsCountOfD: "a commit leaves the count of STOP D", "W7: falling counts above the new datum are cut to it, runs are not";
+    CommitKeepsCountOfE: "a commit leaves the count of STOP E", "W7: falling counts above the new datum are cut to it, runs are not";
+    CommitKeepsCountOfB: "a commit leaves the count of STOP B", "W7: falling counts above the new datum are cut to it, runs are not";
+    CommitSetsStopCount: "a commit sets a stop's count anew", "W7: falling counts above the new datum are cut to it, runs are not";
+    CommitSetsStopCountAbove0: "a commit sets a stop's count anew while it runs", "W7: falling counts above the new datum are cut to it, runs are not";
+    CommitPutsStopCountTo0: "a commit puts a stop's count to 0", "W7: falling counts above the new datum are cut to it, runs are not";
+    CommitCutsStopCountTo1: "a commit cuts a stop's count to 1 at least", "W7: falling counts above the new datum are cut to it, runs are not";
+    CommitCutsStopCountTo1More: "a commit cuts a stop's count to one more than its datum", "W7: falling counts above the new datum are cut to it, runs are not";
+    CommitCutsStopCountTo1Less: "a commit cuts a stop's count to one less than its datum", "W7: falling counts above the new datum are cut to it, runs are not";
+    CommitCutsStopCountByC: "a commit cuts a stop's count to the time of C", "W7: falling counts above the new datum are cut to it, runs are not";
+    CommitCutsStopCountByB: "a commit cuts a stop's count to the time of B", "W7: falling counts above the new datum are cut to it, runs are not";
+    CommitCutsTimesDAndESwapped: "a commit cuts the count of D to the time of E, and that of E to the time of D", "W7: falling counts above the new datum are cut to it, runs are not";
+    CommitRaisesToA: "STOP B becomes A at the commit that cuts its count to 0", "In the first cycle where the count is 0, entry included, C, D and E are held with the position as reference, and B becomes A.";
+    CommitHoldsAt0: "C, D and E are held at the commit that cuts their count to 0", "In the first cycle where the count is 0, entry included, C, D and E are held with the position as reference, and B becomes A.";
+    }
 }

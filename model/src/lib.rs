@@ -1,10 +1,11 @@
 //! A reference bench model of the two-channel axis monitor of document 01, with requests W1,
 //! "Spindles with gear stages", W2, "A spindle that only shows n<nx", W3, "The steady door
-//! lamp", W4, "Cause codes in one order", and W6, "Safe direction", of document 02. W5, "Cam
-//! bits by arithmetic", is of how the proved monitor reckons, and changes no word.
+//! lamp", W4, "Cause codes in one order", W6, "Safe direction", and W7, "New limits without
+//! stopping", of document 02. W5, "Cam bits by arithmetic", is of how the proved monitor reckons,
+//! and changes no word.
 //!
 //! The modules stand in document 01's order and use its words. Each function quotes the
-//! sentence that it stands for; behind `W1:` to `W6:` stands one of the request.
+//! sentence that it stands for; behind `W1:` to `W7:` stands one of the request.
 //!
 //! In an expression `paper!(r, right, Deviation => wrong, ..)` the first part is the papers'.
 //! The lines behind it are wrong programs that a good kit notices; a reader of the monitor

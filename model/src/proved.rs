@@ -37,6 +37,23 @@ pub mod archive {
             causes: *mut [u8; 13],
         ) -> u32;
         pub fn monitor_device_word(a: u32, b: u32) -> u32;
+        pub fn monitor_ask(
+            words: *const u32,
+            words_len: usize,
+            state: *mut Image,
+            pending: *mut [i32; COUNT],
+            position: i32,
+            inputs: u32,
+            report: *const [u32; 4],
+            causes: *mut [u8; 13],
+            at: *mut usize,
+        ) -> u32;
+        pub fn monitor_commit(
+            data: *mut [i32; COUNT],
+            state: *mut Image,
+            pending: *const [i32; COUNT],
+            at: *mut usize,
+        ) -> u32;
         pub fn monitor_run_log(
             data_a: *const [i32; COUNT],
             state_a: *mut Image,
@@ -82,6 +99,8 @@ pub fn device_word(a: u32, b: u32) -> u32 {
 pub struct Channel {
     pub data: [i32; COUNT],
     pub state: Image,
+    /// The list asked about.
+    pub pending: [i32; COUNT],
 }
 
 /// What a cycle gives: the channel word, and the codes that stand with 0 behind them.
@@ -96,6 +115,7 @@ impl Channel {
     pub const NONE: Channel = Channel {
         data: [0; COUNT],
         state: [0; WORDS],
+        pending: [0; COUNT],
     };
 
     /// The channel of a list, and how many words it has. A refused one leaves it as it was.
@@ -149,6 +169,44 @@ impl Channel {
             )
         };
         Cycle { word, codes }
+    }
+
+    /// How many words a list has that is asked about; the codes of the fresh causes are then those of a cycle straight after its
+    /// commit. A refused one leaves none pending, and the codes as they were.
+    pub fn ask(
+        &mut self,
+        words: &[u32],
+        position: i32,
+        inputs: u32,
+        report: &[u32; 4],
+        codes: &mut [u8; 13],
+    ) -> Result<usize, Refusal> {
+        let mut at = usize::MAX;
+        // SAFETY: all are lent for the call, and what is written to nobody else.
+        let number = unsafe {
+            archive::monitor_ask(
+                words.as_ptr(),
+                words.len(),
+                &mut self.state,
+                &mut self.pending,
+                position,
+                inputs,
+                report,
+                codes,
+                &mut at,
+            )
+        };
+        answer(number, at)
+    }
+
+    /// How many data the list has that was pending and is in force now. With none pending it leaves the channel as it was.
+    pub fn commit(&mut self) -> Result<usize, Refusal> {
+        let mut at = usize::MAX;
+        // SAFETY: all are lent for the call, and what is written to nobody else.
+        let number = unsafe {
+            archive::monitor_commit(&mut self.data, &mut self.state, &self.pending, &mut at)
+        };
+        answer(number, at)
     }
 }
 

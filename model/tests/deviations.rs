@@ -35,17 +35,15 @@ fn every_deviation_is_told_by_a_random_kit() {
 
 #[test]
 fn there_are_at_least_100_and_each_has_its_words() {
-    assert!(Deviation::ALL.len() >= 100);
-    for deviation in Deviation::ALL {
+    assert!(Deviation::ALL.len() >= 100 && Deviation::OF_CALLS.len() >= 100);
+    let all = [Deviation::ALL, Deviation::OF_CALLS].concat();
+    for deviation in &all {
         assert!(!deviation.what().is_empty() && !deviation.breaks().is_empty());
     }
-    let mut names: Vec<&str> = Deviation::ALL
-        .iter()
-        .map(|deviation| deviation.what())
-        .collect();
+    let mut names: Vec<&str> = all.iter().map(|deviation| deviation.what()).collect();
     names.sort();
     names.dedup();
-    assert_eq!(names.len(), Deviation::ALL.len());
+    assert_eq!(names.len(), all.len());
 }
 
 /// Takes its time: run it with `--ignored`.

@@ -55,7 +55,9 @@ fn facts() -> String {
         format!("MONITOR_KIT == {}", listing::LARGEST),
         format!("MONITOR_IN_BITS == {}u", channel::INPUT_BITS),
         format!("MONITOR_IN_GEAR == {GEAR_BITS}u"),
-        format!("(MONITOR_IN_POSITIVE_ONLY_OFF | MONITOR_IN_NEGATIVE_ONLY_OFF) == {DIRECTION_BITS}u"),
+        format!(
+            "(MONITOR_IN_POSITIVE_ONLY_OFF | MONITOR_IN_NEGATIVE_ONLY_OFF) == {DIRECTION_BITS}u"
+        ),
         format!("sizeof(monitor_channel) == {}", size_of::<Channel>()),
     ];
     let states = image::NAMES.iter().enumerate();
@@ -102,8 +104,10 @@ fn an_archive_has_its_names_and_asks_for_no_others_but_memory() {
         "monitor_report",
     ];
     let logs = ["monitor_list_kit", "monitor_run_kit", "monitor_run_log"];
+    let lists = ["monitor_ask", "monitor_commit"];
     has_names(env!("MONITOR_ARCHIVE"), &cycle);
     has_names(env!("MONITOR_LOGS_ARCHIVE"), &logs);
+    has_names(env!("MONITOR_LISTS_ARCHIVE"), &lists);
 }
 
 fn has_names(archive: &str, exported: &[&str]) {
@@ -120,7 +124,7 @@ fn has_names(archive: &str, exported: &[&str]) {
     };
     assert_eq!(names("T"), exported, "{text}");
     let wanted = names("U");
-    let known = |name: &&str| ["memcpy", "memset"].contains(name);
+    let known = |name: &&str| ["memcpy", "memmove", "memset"].contains(name);
     assert!(wanted.iter().all(known), "{wanted:?}");
     let lines = text.lines().filter(|line| line.contains(' ')).count();
     assert_eq!(lines, exported.len() + wanted.len(), "{text}");
@@ -128,7 +132,11 @@ fn has_names(archive: &str, exported: &[&str]) {
 
 #[test]
 fn an_archive_has_no_variable() {
-    for archive in [env!("MONITOR_ARCHIVE"), env!("MONITOR_LOGS_ARCHIVE")] {
+    for archive in [
+        env!("MONITOR_ARCHIVE"),
+        env!("MONITOR_LOGS_ARCHIVE"),
+        env!("MONITOR_LISTS_ARCHIVE"),
+    ] {
         let text = run("nm", &[archive]);
         let kinds = text
             .lines()
@@ -178,6 +186,21 @@ fn an_array_of_length_0_may_be_null() {
         assert_eq!((ran, told), (0, [1, 0, b'A'.into()]));
         let length = archive::monitor_list_kit(words.cast(), 0, output.cast(), 0);
         assert_eq!(length, b"refused 1 0 A\n".len());
+        let (report, mut codes) = (a.report(0, 2), [u8::MAX; 13]);
+        let asked = archive::monitor_ask(
+            words,
+            0,
+            &mut a.state,
+            &mut a.pending,
+            0,
+            2,
+            &report,
+            &mut codes,
+            &mut at,
+        );
+        assert_eq!((asked, at, codes), (1, 0, [u8::MAX; 13]));
+        let committed = archive::monitor_commit(&mut a.data, &mut a.state, &a.pending, &mut at);
+        assert_eq!((committed, at), (8, 0));
     }
     assert_eq!((*a, *b), before);
 }
@@ -191,11 +214,7 @@ struct Pair {
 
 impl Pair {
     fn fresh(data: MachineData) -> Pair {
-        let mut words = vec![words::head(data.head())];
-        for (number, &value) in data.data().iter().enumerate() {
-            let pieces = [value as u32 >> 16, value as u32].map(words::piece);
-            words.extend([words::datum(number, 0), pieces[0], pieces[1]]);
-        }
+        let words = words_of(&data);
         let mut proved = Channel::NONE;
         assert_eq!(proved.read_list(&words), Ok(words.len()));
         let model = Lent::fresh(data);
@@ -208,6 +227,47 @@ impl Pair {
     fn same(&self) {
         assert_eq!(self.proved.data, *self.model.data());
         assert_eq!(self.proved.state, *self.model.state());
+        assert_eq!(self.proved.pending, *self.model.pending());
+    }
+
+    /// Any content of the arrays.
+    fn of(data: [i32; COUNT], state: Image, pending: [i32; COUNT]) -> Pair {
+        Pair {
+            model: Lent::of(data, state, pending),
+            proved: Channel {
+                data,
+                state,
+                pending,
+            },
+        }
+    }
+
+    /// An ask: the words used and the codes, or the refusal.
+    #[track_caller]
+    fn ask(
+        &mut self,
+        words: &[u32],
+        position: i32,
+        inputs: u32,
+        report: Report,
+    ) -> Result<(usize, Vec<u8>), Refusal> {
+        let mut codes = Call::CODES;
+        let lent = proved::lent(report);
+        let given = self.proved.ask(words, position, inputs, &lent, &mut codes);
+        let wanted = self.model.ask(words, position, inputs, report);
+        assert_eq!(given, wanted.map(|asked| asked.used));
+        assert_eq!(codes, wanted.map_or(Call::CODES, |asked| asked.codes));
+        self.same();
+        let codes = codes.into_iter().take_while(|&code| code != 0);
+        given.map(|used| (used, codes.collect()))
+    }
+
+    #[track_caller]
+    fn commit(&mut self) -> Result<usize, Refusal> {
+        let committed = self.proved.commit();
+        assert_eq!(committed, self.model.commit());
+        self.same();
+        committed
     }
 
     #[track_caller]
@@ -229,6 +289,16 @@ impl Pair {
         self.same();
         (wanted.word, wanted.causes.codes().collect())
     }
+}
+
+/// The words of a list.
+fn words_of(data: &MachineData) -> Vec<u32> {
+    let mut words = vec![words::head(data.head())];
+    for (number, &value) in data.data().iter().enumerate() {
+        let pieces = [value as u32 >> 16, value as u32].map(words::piece);
+        words.extend([words::datum(number, 0), pieces[0], pieces[1]]);
+    }
+    words
 }
 
 /// A log over two channels, with room for so many words.
@@ -518,6 +588,42 @@ fn stack_of_call(channels: &mut Channels, call: &Call) -> (&'static str, usize) 
                     stack_of(archive::monitor_cycle as _, &arguments),
                 )
             }
+            Call::Ask {
+                of,
+                position,
+                inputs,
+                report,
+                ref words,
+            } => {
+                let (_, mut state) = content(of);
+                let mut pending = *channels.0[of].pending();
+                let (report, mut codes) = (proved::lent(report), Call::CODES);
+                let arguments = [
+                    words.as_ptr() as u64,
+                    words.len() as u64,
+                    &raw mut state as u64,
+                    &raw mut pending as u64,
+                    position as u64,
+                    inputs.into(),
+                    &raw const report as u64,
+                    &raw mut codes as u64,
+                    at,
+                ];
+                (
+                    "monitor_ask",
+                    stack_of(archive::monitor_ask as _, &arguments),
+                )
+            }
+            Call::Commit { of } => {
+                let (mut data, mut state) = content(of);
+                let pending = *channels.0[of].pending();
+                let lent = [&raw mut data as u64, &raw mut state as u64];
+                let arguments = [lent[0], lent[1], &raw const pending as u64, at];
+                (
+                    "monitor_commit",
+                    stack_of(archive::monitor_commit as _, &arguments),
+                )
+            }
             Call::DeviceWord { a, b } => {
                 let arguments = [a.into(), b.into()];
                 (
@@ -604,6 +710,8 @@ fn each_call_keeps_to_its_stack() {
         ("monitor_read_list", 0, Some(4 << 10)),
         ("monitor_run_log", 0, Some(4 << 10)),
         ("monitor_run_kit", 0, Some(8 << 10)),
+        ("monitor_ask", 0, Some(8 << 10)),
+        ("monitor_commit", 0, Some(4 << 10)),
         ("monitor_list_kit, up to 10,240 bytes", 0, Some(24 << 10)),
         ("monitor_list_kit, more", 0, Some(128 << 10)),
     ];
@@ -738,10 +846,7 @@ fn ratios_and_counts_of_any_content() {
                     (data[53], data[61]) = (ratio, other);
                     state[image::word::COUNT] = count;
                     state[image::word::K] = k;
-                    let mut pair = Pair {
-                        model: Lent::of(data, state),
-                        proved: Channel { data, state },
-                    };
+                    let mut pair = Pair::of(data, state, [0; COUNT]);
                     for (position, inputs) in [(0, 2), (2, 0x202), (402, 0x202), (1000, 2)] {
                         let report = pair.report(position, inputs);
                         pair.cycle(position, inputs, report);
@@ -776,10 +881,7 @@ fn nx_of_any_content() {
                     let (mut data, mut state) = (fresh.proved.data, fresh.proved.state);
                     (data[number::NX_HYSTERESIS], data[number::NX_FILTER]) = (hysteresis, filter);
                     (state[image::word::NX], state[image::word::NX_RUN]) = (value, run);
-                    let mut pair = Pair {
-                        model: Lent::of(data, state),
-                        proved: Channel { data, state },
-                    };
+                    let mut pair = Pair::of(data, state, [0; COUNT]);
                     // Below nx, between, unusable, and far above.
                     for (position, inputs) in [(0, 1), (150, 1), (150, 5), (150, 1), (9_000_000, 1)]
                     {
@@ -846,10 +948,7 @@ fn directions_of_any_content() {
                         state[image::word::NEGATIVE_RUN] = run.wrapping_add(1);
                         state[image::word::NEGATIVE_WATCH] = watch.rotate_left(1);
                         state[image::word::NEGATIVE_EXTREME] = !extreme;
-                        let mut pair = Pair {
-                            model: Lent::of(data, state),
-                            proved: Channel { data, state },
-                        };
+                        let mut pair = Pair::of(data, state, [0; COUNT]);
                         // Unusable, neither way, one, the other, both.
                         for (position, inputs) in
                             [(5, 5), (5, 1), (-6, 0x4001), (9, 0x2001), (0, 0x6001)]
@@ -889,5 +988,87 @@ fn runs_watches_and_extremes() {
         let first = image::word::POSITIVE_RUN;
         let found = [0, 1, 2, 3, 4, 5].map(|place| state[first + place] as i32);
         assert_eq!(found, words, "{position} {inputs}");
+    }
+}
+
+#[test]
+fn an_ask_and_its_commit() {
+    let tighter = |limit: i32| data(&[(0, 12), (1, 1), (3, limit), (7, 3), (29, 2)]);
+    let mut channel = Pair::fresh(tighter(2000));
+    let report = channel.report(0, 2);
+    channel.cycle(0, 2, report);
+    let words = words_of(&tighter(1000));
+    let nothing = Refusal {
+        number: 8,
+        place: 0,
+    };
+    assert_eq!(channel.commit(), Err(nothing));
+    let report = channel.report(201, 2);
+    assert_eq!(channel.ask(&words, 201, 2, report), Ok((154, vec![3])));
+    // A cycle drops it.
+    channel.cycle(201, 2, report);
+    assert_eq!(channel.commit(), Err(nothing));
+    let report = channel.report(401, 2);
+    assert_eq!(channel.ask(&words, 401, 2, report), Ok((154, vec![])));
+    let refused = channel.ask(&words[..153], 401, 2, report);
+    assert_eq!(refused.map_err(|refusal| refusal.place), Err(153));
+    assert_eq!(channel.commit(), Err(nothing));
+    let longer = [&words[..], &[0; 3]].concat();
+    assert_eq!(channel.ask(&longer, 401, 2, report), Ok((154, vec![])));
+    assert_eq!(channel.commit(), Ok(51));
+    assert_eq!(channel.commit(), Err(nothing));
+    assert_eq!(channel.cycle(401, 2, report).1, [0; 0]);
+    let report = channel.report(602, 2);
+    assert_eq!(channel.cycle(602, 2, report).1, [3]);
+}
+
+/// What no list brings: any count of a pending list, times outside their ranges, and any counts.
+#[test]
+fn commits_of_any_content() {
+    let fresh = Pair::fresh(data_of(COUNT, &[(0, 12), (1, 33), (27, 5), (34, 5)])).proved;
+    let times = [0, 1, 4, 1000, 1001, -1, i32::MIN, i32::MAX];
+    for (at, time) in times.into_iter().enumerate() {
+        for count in [1, 50, 51, 72, 73, 255, 256, u32::MAX] {
+            for left in [0, 1, 4, 5, 1000, u32::MAX] {
+                for (stop, rank) in [
+                    (0, 0),
+                    (1, 0),
+                    (1, 1),
+                    (1, 2),
+                    (1, 3),
+                    (1, 4),
+                    (1, 5),
+                    (1, 9),
+                    (2, 3),
+                    (3, 0),
+                    (9, 9),
+                ] {
+                    let mut state = fresh.state;
+                    let mut pending = fresh.data;
+                    pending[number::FUNCTIONS] = [1, 33, 63, 64, -1][at % 5];
+                    for number in [27, 29, 30, 31, 32, 34] {
+                        pending[number] = times[(at + number) % times.len()];
+                    }
+                    pending[number::DELAY] = time;
+                    state[image::word::PENDING] = count;
+                    state[image::word::K] = [0, 50, 51, 71, 72, 255, 256][(left % 7) as usize];
+                    state[image::word::DELAY] = left;
+                    state[image::word::F] = u32::from(at % 2 == 0);
+                    state[image::word::F_COUNT] = left;
+                    state[image::word::STOP] = stop;
+                    state[image::word::RANK] = rank;
+                    state[image::word::REST] = left;
+                    state[image::word::CAMS] = 0x1a5;
+                    state[image::word::POSITIVE_WATCH] = left;
+                    state[image::word::NEGATIVE_EXTREME] = left;
+                    let mut pair = Pair::of(fresh.data, state, pending);
+                    assert_eq!(pair.commit(), Ok(count as usize));
+                    for (position, inputs) in [(0, 2), (5, 0x6002), (5, 5), (9, 0)] {
+                        let report = pair.report(position, inputs);
+                        pair.cycle(position, inputs, report);
+                    }
+                }
+            }
+        }
     }
 }

@@ -2,11 +2,12 @@
 
 mod common;
 use common::beside;
-use model::channel::image::{word, Lent};
+use model::channel::image::{self, word, Lent};
+use model::channel::Report;
 use model::list::Refusal;
 use model::machine_data::COUNT;
-use model::script::{self, Board, Call, Cycle, Model, Script};
-use model::{log, MachineData};
+use model::script::{self, Asked, Board, Call, Cycle, Model, Script};
+use model::{log, Deviant, Deviation, MachineData};
 use std::cell::Cell;
 use std::fs;
 
@@ -100,14 +101,14 @@ fn told_of(board: u32) -> impl Fn(&[Script]) -> Vec<String> {
 fn set(channel: &mut Lent, word: usize, value: u32) {
     let mut state = *channel.state();
     state[word] = value;
-    *channel = Lent::of(*channel.data(), state);
+    *channel = Lent::of(*channel.data(), state, *channel.pending());
 }
 
 /// A new channel with the same data.
 fn renew(channel: &mut Lent) {
     let head = channel.channel().data().head();
     let new = Lent::fresh(MachineData::lowest(head));
-    *channel = Lent::of(*channel.data(), *new.state());
+    *channel = Lent::of(*channel.data(), *new.state(), *channel.pending());
 }
 
 impl Board for Wrong {
@@ -131,7 +132,7 @@ impl Board for Wrong {
                 let mut data = *channel.data();
                 let head = channel.channel().data().head();
                 data[head..].copy_from_slice(&before.data()[head..]);
-                *channel = Lent::of(data, *channel.state());
+                *channel = Lent::of(data, *channel.state(), *channel.pending());
             }
             // Value or run of n<nx stay under a new list.
             54 if answer.is_ok() => set(channel, word::NX, before.state()[word::NX]),
@@ -260,6 +261,24 @@ impl Board for Wrong {
             cycle.codes = in_order(&seen);
         }
         cycle
+    }
+
+    fn ask(
+        channel: &mut Lent,
+        words: &[u32],
+        position: i32,
+        inputs: u32,
+        report: &[u32; 4],
+    ) -> Asked {
+        Model::ask(channel, words, position, inputs, report)
+    }
+
+    fn commit(channel: &mut Lent) -> Result<usize, Refusal> {
+        Model::commit(channel)
+    }
+
+    fn but_for_pending(channel: &Lent, accepted: bool) -> Lent {
+        Model::but_for_pending(channel, accepted)
     }
 
     fn state(channel: &Lent, word: usize) -> u32 {
@@ -931,6 +950,126 @@ fn each_wrong_board_is_told() {
     assert_eq!(untold(&scripts()), [0; 0]);
 }
 
+// ---- request W7
+
+/// The model with the deviation from request W7 that [`DEVIATION`] holds.
+struct Deviating;
+
+thread_local! {
+    static DEVIATION: Cell<Deviation> = const { Cell::new(Deviation::OF_CALLS[0]) };
+}
+
+fn deviant() -> Deviant {
+    Deviant(DEVIATION.get())
+}
+
+fn report_of(report: &[u32; 4]) -> Report {
+    script::report_of(report)
+}
+
+impl Board for Deviating {
+    type Channel = Lent;
+
+    fn none() -> Lent {
+        Model::none()
+    }
+
+    fn list(channel: &mut Lent, words: &[u32]) -> Result<usize, Refusal> {
+        channel.read_list_as(deviant(), words)
+    }
+
+    fn report(channel: &Lent, position: i32, inputs: u32) -> [u32; 4] {
+        Model::report(channel, position, inputs)
+    }
+
+    fn cycle(
+        channel: &mut Lent,
+        position: i32,
+        inputs: u32,
+        acknowledged: u32,
+        report: &[u32; 4],
+    ) -> Cycle {
+        let report = report_of(report);
+        let acknowledged = acknowledged != 0;
+        let cycle = channel.cycle_as(deviant(), position, inputs, acknowledged, report, None);
+        Cycle {
+            word: cycle.word,
+            codes: cycle.causes.list(),
+        }
+    }
+
+    fn device(a: u32, b: u32) -> u32 {
+        Model::device(a, b)
+    }
+
+    fn log(
+        a: &mut Lent,
+        b: &mut Lent,
+        words: &[u32],
+        output: &mut [u32],
+    ) -> Result<usize, Refusal> {
+        image::run_log_as(deviant(), a, b, words, output)
+    }
+
+    fn ask(
+        channel: &mut Lent,
+        words: &[u32],
+        position: i32,
+        inputs: u32,
+        report: &[u32; 4],
+    ) -> Asked {
+        let asked = channel.ask_as(deviant(), words, position, inputs, report_of(report));
+        Asked {
+            told: asked.map(|asked| asked.used),
+            codes: asked.map_or(Asked::BEFORE, |asked| asked.codes),
+        }
+    }
+
+    fn commit(channel: &mut Lent) -> Result<usize, Refusal> {
+        channel.commit_as(deviant())
+    }
+
+    fn but_for_pending(channel: &Lent, accepted: bool) -> Lent {
+        Model::but_for_pending(channel, accepted)
+    }
+
+    fn state(channel: &Lent, word: usize) -> u32 {
+        Model::state(channel, word)
+    }
+
+    fn put(channel: &mut Lent, word: usize, value: u32) {
+        Model::put(channel, word, value)
+    }
+}
+
+#[test]
+fn each_deviation_from_w7_is_told() {
+    let scripts: Vec<Script> = scripts().into_iter().filter(asks).collect();
+    assert!(scripts.len() >= 34, "{}", scripts.len());
+    let told_of = |deviation: Deviation| {
+        DEVIATION.set(deviation);
+        told::<Deviating>(&scripts).len()
+    };
+    let untold: Vec<&str> = Deviation::OF_CALLS
+        .iter()
+        .filter(|&&deviation| told_of(deviation) == 0)
+        .map(|deviation| deviation.name())
+        .collect();
+    assert_eq!(untold, [""; 0]);
+    // No other deviation is one of these calls.
+    assert_eq!(told_of(Deviation::ALL[0]), 0);
+}
+
+fn told_by_deviating(scripts: &[Script]) -> Vec<String> {
+    told::<Deviating>(scripts)
+}
+
+/// Whether a script asks or commits.
+fn asks(script: &Script) -> bool {
+    let mut calls = script.steps.iter().map(|step| &step.call);
+    calls.any(|call| matches!(call, Call::Ask { .. } | Call::Commit { .. }))
+}
+
 /// Two channels, and a cycle of both.
 const LISTS: &str = "lists X and Y -> accepted 154\n  0 = 12\n  34 = 9\n";
 
@@ -986,6 +1125,26 @@ fn each_wrong_answer_is_told() {
             "list X -> accepted 154\ncopy X to Y\nlike X Y -> no",
             "line 4: expected no; found yes",
         ),
+        (
+            "list X -> accepted 154\nask X 0 off, report of X -> accepted 154 cause 3",
+            "line 3: expected accepted 154 causes 3; found accepted 154 no cause",
+        ),
+        (
+            "list X -> accepted 154\nask X 0 off bit 2, report of X -> refused 1 0",
+            "line 3: expected refused 1 0; found accepted 154 causes 1",
+        ),
+        (
+            "list X -> accepted 154\nask X 0 off, report of X -> accepted 154 no cause\n0 = 26",
+            "line 3: expected accepted 154 no cause; found refused 4 1",
+        ),
+        (
+            "list X -> accepted 154\ncommit X -> committed 51",
+            "line 3: expected committed 51; found refused 8 0",
+        ),
+        (
+            "list X -> accepted 154\nask X 0 off, report of X, list, else as X -> accepted 154 no cause\ncommit X -> committed 67",
+            "line 4: expected committed 67; found committed 51",
+        ),
     ] {
         let difference = script::run::<Model>(&script_of(text)).err().expect(text);
         assert_eq!(difference.to_string(), format!("own.txt: {told}"));
@@ -1013,6 +1172,32 @@ fn each_wrong_answer_is_told() {
         first("list X -> refused 4 1\n0 = 26", told_of(1)),
         "own.txt: line 5: expected channel X as it was; found it changed"
     );
+    for (deviation, text, told) in [
+        (
+            Deviation::AskCountsK,
+            "ask X 0 off, report of X, list, else as X -> accepted 154 no cause",
+            "line 5: expected channel X as it was but for its pending list; found it changed",
+        ),
+        (
+            Deviation::RefusedAskForgetsPrevious,
+            "cycle X 5 off, report of X -> 00000080 no cause\nask X 0 off, report of X -> refused 4 1\n0 = 26",
+            "line 6: expected channel X as it was but for its pending list; found it changed",
+        ),
+        (
+            Deviation::EmptyCommitForgetsPrevious,
+            "cycle X 5 off, report of X -> 00000080 no cause\ncommit X -> refused 8 0",
+            "line 6: expected channel X as it was; found it changed",
+        ),
+        (
+            Deviation::PendingDroppedBy7,
+            "ask X 0 off, report of X, list, else as X -> accepted 154 no cause\nlog X Y, output 2 -> refused 7 3\nboth 0 off",
+            "line 6: expected channel X as it was; found it changed",
+        ),
+    ] {
+        DEVIATION.set(deviation);
+        let found = first(text, told_by_deviating);
+        assert_eq!(found, format!("own.txt: {told}"));
+    }
 }
 
 #[test]
@@ -1097,6 +1282,27 @@ fn a_text_that_is_no_script_is_refused() {
             "cycle X 0 SG1, report 0 SG1 -> 00000081 no cause",
             "'datum' is missing",
         ),
+        (
+            "ask X 0 SG1, list -> accepted 154 no cause",
+            "'report' is wanted, not 'list'",
+        ),
+        (
+            "ask X 0 SG1, report of X -> accepted 154",
+            "'accepted 154' is not accepted N with its causes or no cause, or refused NUMBER PLACE",
+        ),
+        (
+            "ask X 0 SG1, report of X -> refused 1",
+            "'refused 1' is not accepted N or refused NUMBER PLACE",
+        ),
+        (
+            "ask X 0 SG1, report of X, list, else as Y -> accepted 154 no cause",
+            "no channel 'Y' was made",
+        ),
+        (
+            "commit X -> accepted 51",
+            "'accepted 51' is not committed N or refused NUMBER PLACE",
+        ),
+        ("commit Y -> committed 51", "no channel 'Y' was made"),
         (
             "cycle X 2147483648 SG1, report of X -> 00000081 no cause",
             "'2147483648' is not a position of 32 bits from -2147483648 to 2147483647",
@@ -1187,7 +1393,11 @@ mod on_a_board {
         assert!(answer.status.success() && said.is_empty(), "{said}");
     }
 
-    const ARCHIVES: [&str; 2] = [env!("MONITOR_LOGS_ARCHIVE"), env!("MONITOR_ARCHIVE")];
+    const ARCHIVES: [&str; 3] = [
+        env!("MONITOR_LOGS_ARCHIVE"),
+        env!("MONITOR_LISTS_ARCHIVE"),
+        env!("MONITOR_ARCHIVE"),
+    ];
 
     /// `scripts.c` over the archives.
     static PROGRAM: LazyLock<PathBuf> = LazyLock::new(|| {
@@ -1266,28 +1476,58 @@ mod on_a_board {
         assert_eq!(printed("none", "").1, Some(1));
     }
 
-    /// A board whose log run does something more, and returns what it should.
-    fn wrong(name: &str, more: &str) -> PathBuf {
+    /// A function of the header that a wrong board has otherwise.
+    struct Function {
+        name: &'static str,
+        parameters: &'static str,
+        arguments: &'static str,
+    }
+
+    const RUN_LOG: Function = Function {
+        name: "run_log",
+        parameters: "const int32_t *data_a, uint32_t *state_a, const int32_t *data_b, uint32_t *state_b, const uint32_t *words,
+            size_t words_len, uint32_t *out, size_t out_len, size_t *at",
+        arguments: "data_a, state_a, data_b, state_b, words, words_len, out, out_len, at",
+    };
+
+    const ASK: Function = Function {
+        name: "ask",
+        parameters: "const uint32_t *words, size_t words_len, uint32_t *state, int32_t *pending, int32_t position, uint32_t inputs,
+            const uint32_t *report, uint8_t *causes, size_t *at",
+        arguments: "words, words_len, state, pending, position, inputs, report, causes, at",
+    };
+
+    const COMMIT: Function = Function {
+        name: "commit",
+        parameters: "int32_t *data, uint32_t *state, const int32_t *pending, size_t *at",
+        arguments: "data, state, pending, at",
+    };
+
+    /// A board whose function does something more, and returns what it should.
+    fn wrong(name: &str, function: &Function, more: &str) -> PathBuf {
         let (source, object, program) = (
             own(&format!("{name}.c")),
             own(&format!("{name}.o")),
             own(name),
         );
+        let Function {
+            name,
+            parameters,
+            arguments,
+        } = function;
         let text = format!(
             "#include \"axis_monitor.h\"
-uint32_t wrong_run_log(const int32_t *data_a, uint32_t *state_a, const int32_t *data_b, uint32_t *state_b, const uint32_t *words,
-                       size_t words_len, uint32_t *out, size_t out_len, size_t *at);
-uint32_t wrong_run_log(const int32_t *data_a, uint32_t *state_a, const int32_t *data_b, uint32_t *state_b, const uint32_t *words,
-                       size_t words_len, uint32_t *out, size_t out_len, size_t *at) {{
-    uint32_t refused = monitor_run_log(data_a, state_a, data_b, state_b, words, words_len, out, out_len, at);
+uint32_t wrong_{name}({parameters});
+uint32_t wrong_{name}({parameters}) {{
+    uint32_t refused = monitor_{name}({arguments});
     {more}
     return refused;
 }}
 "
         );
         fs::write(&source, text).expect("the source");
-        let arguments = ["-c", "-Dmonitor_run_log=wrong_run_log"];
-        compile(&beside("examples/scripts.c"), &arguments, &object);
+        let renamed = format!("-Dmonitor_{name}=wrong_{name}");
+        compile(&beside("examples/scripts.c"), &["-c", &renamed], &object);
         let object = object.to_string_lossy();
         compile(&source, &[&[&*object][..], &ARCHIVES].concat(), &program);
         program
@@ -1315,9 +1555,69 @@ uint32_t wrong_run_log(const int32_t *data_a, uint32_t *state_a, const int32_t *
                 "own: line 5, expected 7 3 a5a5a5a5 a5a5a5a5, found 7 3 0 a5a5a5a5\n0 of 1 scripts agree\n",
             ),
         ] {
-            let program = wrong(name, more);
+            let program = wrong(name, &RUN_LOG, more);
             let (text, _) = printed_by(&program, &format!("{name}.plain"), &plain);
             assert_eq!(text, told);
+        }
+    }
+
+    #[test]
+    fn a_wrong_ask_or_commit_is_told() {
+        let text = format!(
+            "{LISTS}ask X 0 off, report of X -> refused 4 1\n  0 = 26
+ask X 0 off, report of X, list, else as X -> accepted 154 no cause
+commit X -> committed 51\ncommit X -> refused 8 0\n"
+        );
+        let plain = script::plain(&[script_of(&text)]).expect("the model agrees");
+        let changed = |line: u32| format!("own: line {line}, channel 0 is not as it was\n");
+        for (name, function, more, told) in [
+            ("ask-board", &ASK, "state[1]++;", changed(5)),
+            (
+                "asked-board",
+                &ASK,
+                "if (refused == 0) state[1]++;",
+                changed(7),
+            ),
+            (
+                "pending-board",
+                &ASK,
+                "if (refused != 0) pending[0]++;",
+                changed(5),
+            ),
+            (
+                "kept-board",
+                &ASK,
+                "if (refused != 0) state[MONITOR_STATE_PENDING] = 51;",
+                changed(5),
+            ),
+            (
+                "codes-board",
+                &ASK,
+                "if (refused != 0) causes[0] = 0;",
+                "own: line 5, expected 4 1, found 4 1 0\n".into(),
+            ),
+            (
+                "code-board",
+                &ASK,
+                "if (refused == 0) causes[0] = 12;",
+                "own: line 7, expected 0 9a, found 0 9a c\n".into(),
+            ),
+            (
+                "commit-board",
+                &COMMIT,
+                "if (refused != 0) state[1]++;",
+                changed(9),
+            ),
+            (
+                "place-board",
+                &COMMIT,
+                "if (refused != 0) *at = 1;",
+                "own: line 9, expected 8 0, found 8 1\n".into(),
+            ),
+        ] {
+            let program = wrong(name, function, more);
+            let (text, _) = printed_by(&program, &format!("{name}.plain"), &plain);
+            assert_eq!(text, format!("{told}0 of 1 scripts agree\n"));
         }
     }
 }

@@ -18,7 +18,7 @@ use Rattle.list.specs.declared.ListAnswer as A
 use Rattle.list.specs.Reading.{readList}
 use Rattle.kit.specs.Kit.{first, second, readKit}
 use Rattle.channel.specs.declared.Channel.{Channel}
-use Rattle.channel.specs.Cycle.{withState}
+use Rattle.channel.specs.Cycle.{afterCycles}
 use Rattle.log.specs.declared.LogAnswer.the-variants.{Accepted}
 use Rattle.log.specs.Run.{Both, givenA, givenB, deviceCycle, lastOf, linesOf, bothOf, running}
 use Rattle.kit_bytes.specs.KitBytes.{wholeWords, wordsOf}
@@ -87,7 +87,7 @@ module _ (p q : Rules) where
   running-same a b out rs h =
       let last = last-same (a .list) (b .list) (bothOf a b) rs h in
       let lines = lines-same (a .list) (b .list) (bothOf a b) rs h in
-      λ i. record { answer = Accepted (length rs); a = withState a (last i .a); b = withState b (last i .b); out = lines i ++ drop (3 * length rs) out }
+      λ i. record { answer = Accepted (length rs); a = afterCycles (length rs) a (last i .a); b = afterCycles (length rs) b (last i .b); out = lines i ++ drop (3 * length rs) out }
 
   -- ---- a kit
 
@@ -153,7 +153,7 @@ pub running-now : (a b : Channel) (out : List ℕ) (rs : List CycleRecord) → r
 running-now a b out rs =
     let last = last-now (a .list) (b .list) (bothOf a b) rs in
     let lines = lines-now (a .list) (b .list) (bothOf a b) rs in
-    λ i. record { answer = Accepted (length rs); a = withState a (last i .a); b = withState b (last i .b); out = lines i ++ drop (3 * length rs) out }
+    λ i. record { answer = Accepted (length rs); a = afterCycles (length rs) a (last i .a); b = afterCycles (length rs) b (last i .b); out = lines i ++ drop (3 * length rs) out }
 
 log-now : (da db : MachineData) (l : LogRead) → byLog da db l ≡ logUnder now da db l
 log-now da db (records rs) = ap Said.ran (lines-now da db (record { a = freshState; b = freshState }) rs)

@@ -15,7 +15,7 @@ use Rattle.device.specs.Device.{deviceOf}
 use Rattle.list.specs.declared.ListRead.{ListRead}
 use Rattle.list.specs.declared.ListAnswer as A
 use Rattle.channel.specs.declared.Channel.{Channel}
-use Rattle.channel.specs.Cycle.{withState}
+use Rattle.channel.specs.Cycle.{afterCycles}
 use Rattle.log.specs.declared.LogAnswer.the-variants.{Accepted}
 use Rattle.log.specs.Run.{Both, Ran, bothOf}
 use Rattle.listing.specs.Listing.{Said, ran, refused, textOf}
@@ -59,8 +59,8 @@ module _ (rules : Rules) where
       let last = lastUnder (a .list) (b .list) (bothOf a b) rs in
       record {
         answer = Accepted (length rs);
-        a = withState a (last .a);
-        b = withState b (last .b);
+        a = afterCycles (length rs) a (last .a);
+        b = afterCycles (length rs) b (last .b);
         out = linesUnder (a .list) (b .list) (bothOf a b) rs ++ drop (3 * length rs) out;
       }
 

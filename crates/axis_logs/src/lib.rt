@@ -10,8 +10,8 @@ use image::Image;
 use log::LogAnswer;
 use machine_data::Values;
 
-// A log over two channels: 0 and the number of cycles, or the refusal's number and place, with the states and the output as
-// they were.
+// A log over two channels, whatever data their pending lists have: 0 and the number of cycles, or the refusal's number and place,
+// with the states and the output as they were.
 #[no_mangle]
 pub extern "C" fn monitor_run_log(
     values_a: &Values,
@@ -33,9 +33,11 @@ pub extern "C" fn monitor_run_log(
     match answer {
         LogAnswer::Accepted(cycles) => {
             let a_state = ran.a;
-            *state_a = image_writing::words_of(na, a_state);
+            let a_pending = image::pending_after(cycles, state_a);
+            *state_a = image_writing::words_of(na, a_state, a_pending);
             let b_state = ran.b;
-            *state_b = image_writing::words_of(nb, b_state);
+            let b_pending = image::pending_after(cycles, state_b);
+            *state_b = image_writing::words_of(nb, b_state, b_pending);
             *at = cycles;
             0
         }

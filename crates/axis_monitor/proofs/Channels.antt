@@ -18,9 +18,9 @@ use Rattle.channel.proofs.Judging.{usable-cycle, usable-causes, unusable-cycle,
 use Rattle.directions.specs.declared.Directions.{Directions}
 use Rattle.directions.specs.declared.Watched.{Watched}
 use Rattle.directions.specs.Directions.{directionsNext, overstepped, watchedOf}
-use Rattle.channel.specs.Cycle.{next}
-use Rattle.image.specs.Image.{countFrom, directionsFrom, stateFrom, frontWords, directionWords, directionsIn}
-use Rattle.channel_image.specs.Channels.{channelFrom}
+use Rattle.channel.specs.Cycle.{withList, withState, next}
+use Rattle.image.specs.Image.{countFrom, directionsFrom, stateFrom, frontWords, directionWords, pendingWords, directionsIn}
+use Rattle.channel_image.specs.Channels.{listFrom, pendingOf, channelFrom}
 use Rattle.image_writing.specs.Written.{Written, writtenAs, withDirections, writingFront, DirectionsWritten, directionsAs, writingDirections}
 use Rattle.channel_image.proofs.Channels.{whole-count}
 use Rattle.axis_monitor.specs.Left.{WayLeft, leftByWay, guarding, wordsOver, writingOver, leaving, usableLeaves, unusableLeaves, leftByCycle, guardedIn, cycleOn}
@@ -37,7 +37,7 @@ way-left guarded count {r = r} w {v} is listed there tail put =
     let words = ap (λ (x : DirectionsWritten). directionsIn (x .words)) there ∙ tail .0 in
     let back = ap (λ (x : DirectionsWritten). x .directions) there ∙ tail .1 in
     let over : writingFront count (r .state) v ≡ writingOver guarded count (r .state) w =
-    λ i. record { words = frontWords count (r .state) ++ words i; state = withDirections (r .state) (back i); count = count % 4_294_967_296 } in
+    λ i. record { words = frontWords count (r .state) ++ (words i ++ pendingWords 0); state = withDirections (r .state) (back i); count = count % 4_294_967_296; pending = 0 } in
     let written-as = put ∙ over ∙ ap (λ (x : Advanced). writingOver guarded count (x .state) w) is in
     λ i. record { word = is i .word; written = written-as i; codes = listed i .codes }
 
@@ -85,7 +85,10 @@ module _ (values : List ℤ) (w : List ℕ) (g : Given) where
       let words-are = ap (λ (x : Written). x .words) put ∙ (λ i. wordsOver (guardedIn (m i) g) (is i) (advanced (m i) s g .state) w) in
       let whole = ap (λ (x : Written). x .state) put ∙ ap (withDirections (next (lent values count) s g)) (unwritten (lent values count) s g) in
       let back = ap (λ (x : Written). x .count) put ∙ whole-count count small in
-      let kept : channelFrom values w′ ≡ record { list = lent values count; state = next (lent values count) s g } = λ i. record { list = lent values (back i); state = whole i } in
-      let channel-is = kept ∙ (λ i. record { list = m i; state = advanced (m i) s g .state }) in
+      let none = ap (λ (x : Written). x .pending) put in
+      let kept : (p : List ℤ) → channelFrom values p w′ ≡ withList (lent values count) (next (lent values count) s g) =
+      λ p i. record { list = lent values (back i); state = whole i; pending = pendingOf p (none i) } in
+      let channel-is : (p : List ℤ) → channelFrom values p w′ ≡ withState (channelFrom values p w) (next (listFrom values w) s g) =
+      λ p. kept p ∙ (λ i. withList (m i) (next (m i) s g)) in
       let codes-are = ap (λ (x : WayLeft). x .codes) left ∙ (λ i. causesIn (m i) s g .codes) in
-      λ i. record { word = word-is i; state = words-are i; codes = codes-are i; channel = channel-is i }
+      λ i. record { word = word-is i; state = words-are i; codes = codes-are i; channel = λ p. channel-is p i }

@@ -1,5 +1,5 @@
 -- What the exported functions leave: of each the result and all memory that is lent to it, as one value. A prime marks what a call leaves. Where a call
--- leaves a channel, the value has also the channel that the arrays then stand for, so that calls may follow each other.
+-- leaves a channel, the value has also the channel that the arrays then stand for, with any data of a pending list, so that calls may follow each other.
 use Prim.Native.Nat.{ℕ, _%_}
 use mathlib.Core.Bool.{Bool, false, cond, _&&_}
 use mathlib.Core.List.{List, _++_}
@@ -26,11 +26,11 @@ use Rattle.channel.specs.declared.Channel.{Channel}
 use Rattle.channel.specs.Cycle.{freshChannel, withState, next}
 use Rattle.channel.specs.Word.{word}
 use Rattle.channel.specs.Outcome.{causesIn}
-use Rattle.image.specs.Image.{countFrom, directionsFrom, stateFrom, frontWords, directionWords, stateWords, directionsIn}
+use Rattle.image.specs.Image.{countFrom, directionsFrom, stateFrom, frontWords, directionWords, pendingWords, stateWords, directionsIn}
 use Rattle.channel_image.specs.Channels.{listFrom, channelFrom}
 use Rattle.image_writing.specs.Written.{Written, writtenAs, withDirections, DirectionsWritten, directionsAs, writingDirections}
 use Rattle.crossing_reports.specs.Reports.{reportWords, reportFrom}
-use Rattle.axis_monitor.specs.Crossing.{listNumber, listPlace, listLeft}
+use Rattle.crossing_lists.specs.Answers.{listNumber, listPlace, listLeft}
 
 -- ---- a list read into a channel's arrays
 
@@ -39,10 +39,10 @@ pub record ListLeft : Type 0 where
   pub place : ℕ
   pub values : List ℤ
   pub state : List ℕ
-  pub channel : Channel
+  pub channel : List ℤ → Channel
 
 abbrev pub leftByList : ℕ → List ℤ → List ℕ → ℕ → ListLeft
-leftByList number values′ state′ at′ = record { number = number; place = at′; values = values′; state = state′; channel = channelFrom values′ state′ }
+leftByList number values′ state′ at′ = record { number = number; place = at′; values = values′; state = state′; channel = λ p. channelFrom values′ p state′ }
 
 -- "The working channel starts fresh, with an accepted list"; a refused list leaves "everything" "as it was"
 abbrev pub listInto : List ℕ → List ℤ → List ℕ → ListLeft
@@ -52,8 +52,8 @@ listInto words values state =
       number = listNumber (read .answer);
       place = listPlace (read .answer);
       values = listLeft (read .answer) values (read .list .values);
-      state = listLeft (read .answer) state (stateWords (read .list .count) freshState);
-      channel = listLeft (read .answer) (channelFrom values state) (freshChannel (read .list));
+      state = listLeft (read .answer) state (stateWords (read .list .count) freshState 0);
+      channel = λ p. listLeft (read .answer) (channelFrom values p state) (freshChannel (read .list));
     }
 
 -- ---- a report: its words, and what is read from them
@@ -86,9 +86,9 @@ leftByWay w state′ codes′ = record { word = w; written = writtenAs state′;
 abbrev pub guarding : List ℤ → Reading → Directions → List ℕ → DirectionsWritten
 guarding d r x w = cond (functionOf d 5) (writingDirections (directionsNext d r x) w) (directionsAs w)
 
--- the words of a count and a state over words w, with those of the directions or without
+-- the words of a count and a state over words w, with those of the directions or without; none is pending
 abbrev pub wordsOver : Bool → ℕ → State → List ℕ → List ℕ
-wordsOver guarded count s w = frontWords count s ++ cond guarded (directionWords (s .kept .directions)) (directionsIn w)
+wordsOver guarded count s w = frontWords count s ++ (cond guarded (directionWords (s .kept .directions)) (directionsIn w) ++ pendingWords 0)
 
 abbrev pub writingOver : Bool → ℕ → State → List ℕ → Written
 writingOver guarded count s w =
@@ -96,6 +96,7 @@ writingOver guarded count s w =
       words = wordsOver guarded count s w;
       state = withDirections s (cond guarded (s .kept .directions) (directionsFrom w));
       count = count % 4_294_967_296;
+      pending = 0;
     }
 
 -- what a way leaves that comes to this state and word and to these causes, of a list of so many data
@@ -118,10 +119,10 @@ pub record CycleLeft : Type 0 where
   pub word : ℕ
   pub state : List ℕ
   pub codes : List ℕ
-  pub channel : Channel
+  pub channel : List ℤ → Channel
 
 abbrev pub leftByCycle : List ℤ → ℕ → List ℕ → List ℕ → CycleLeft
-leftByCycle values w state′ codes′ = record { word = w; state = state′; codes = codes′; channel = channelFrom values state′ }
+leftByCycle values w state′ codes′ = record { word = w; state = state′; codes = codes′; channel = λ p. channelFrom values p state′ }
 
 -- a cycle writes the words of the directions: it is usable, and the function is on
 abbrev pub guardedIn : MachineData → Given → Bool
@@ -135,5 +136,5 @@ cycleOn values state g =
       word = word m s g;
       state = wordsOver (guardedIn m g) (countFrom state) (next m s g) state;
       codes = causesIn m s g .codes;
-      channel = withState (channelFrom values state) (next m s g);
+      channel = λ p. withState (channelFrom values p state) (next m s g);
     }

@@ -24,7 +24,7 @@ use state::State;
 pub extern "C" fn monitor_interface() -> u32
     ensures { λ r. ⌜ r ≡ interfaceNumber ⌝ }
 {
-    6
+    7
 }
 
 // A list read into a fresh channel: 0 and the words used, or the refusal's number and place, with the arrays as they were.
@@ -44,7 +44,7 @@ pub extern "C" fn monitor_read_list(
         ListAnswer::Accepted(used) => {
             let read_values = list.values;
             *values = read_values;
-            *state = image_writing::words_of(list.count, State::fresh());
+            *state = image_writing::words_of(list.count, State::fresh(), 0);
             *at = used;
             0
         }

@@ -1,5 +1,10 @@
--- A channel's state over a cycle: document 01, steps 1, 5 and 6.
+-- A channel over a cycle: document 01, steps 1, 5 and 6, and W7.
+use Prim.Native.Nat.{ℕ}
 use mathlib.Core.Bool.{Bool, not, cond, _&&_}
+use lib.Dec.{eqb}
+use lib.IntN.{pos}
+use lib.ListN.{replicate}
+use Rattle.ranges.specs.Table.{dataCount}
 use Rattle.machine_data.specs.declared.MachineData.{MachineData}
 use Rattle.usable_inputs.specs.Usable.{usableOf}
 use Rattle.rank.specs.declared.Rank.{Rank}
@@ -13,13 +18,29 @@ use Rattle.judge.specs.Causes.{rowsOf, findingsOf}
 use Rattle.advance.specs.After.{unusableNext, usableNext}
 use Rattle.channel.specs.declared.Channel.{Channel}
 
+-- none is pending: a list of no data, whatever its values
+abbrev pub noList : MachineData
+noList = record { values = replicate dataCount (pos 0); count = 0 }
+
+-- a channel with a list, in some state, with none pending
+abbrev pub withList : MachineData → State → Channel
+withList m s = record { list = m; state = s; pending = noList }
+
 -- "The working channel starts fresh, with an accepted list"
 abbrev pub freshChannel : MachineData → Channel
-freshChannel m = record { list = m; state = freshState }
+freshChannel m = withList m freshState
 
--- a cycle leaves a channel its list
+-- W7: "Any cycle in between drops it": what is pending behind so many cycles
+abbrev pub behind : ℕ → MachineData → MachineData
+behind cycles p = cond (eqb cycles 0) p noList
+
+-- a channel behind so many cycles, which leave this state: they leave it its list
+abbrev pub afterCycles : ℕ → Channel → State → Channel
+afterCycles n c s = record { list = c .list; state = s; pending = behind n (c .pending) }
+
+-- behind one
 abbrev pub withState : Channel → State → Channel
-withState c s = record { list = c .list; state = s }
+withState c s = afterCycles 1 c s
 
 -- the strongest cause of a cycle
 unfoldable pub strongestIn : MachineData → State → Given → Rank

@@ -1,7 +1,7 @@
 // One cycle of a channel: whether it can be used, and then steps 2 to 6 by judge and advance.
 ghost use mathlib.Core.Path.{_≡_};
 ghost use Rattle.machine_data.specs.Data.{lent};
-ghost use Rattle.channel.specs.Cycle.{freshChannel, withState};
+ghost use Rattle.channel.specs.Cycle.{noList, withList, freshChannel, behind, afterCycles};
 ghost use Rattle.channel.specs.Outcome.{advanced, cycled, outcomeOf};
 use advance::Advanced;
 use causes::Summary;
@@ -9,13 +9,15 @@ use codes::CODES;
 use codes::Causes;
 use machine_data::MachineData;
 use machine_data::Values;
+use ranges::DATA;
 use state::Given;
 use state::State;
 
-// A channel: the list in force, and its state.
+// A channel: the list in force, its state, and the pending list, which was asked about and may be committed; one of no data is none.
 pub struct Channel {
     pub list: MachineData,
     pub state: State,
+    pub pending: MachineData,
 }
 
 // What a cycle gives beside its data: the state after it, its word and its causes.
@@ -46,22 +48,53 @@ pub fn advance(values: &Values, count: usize, state: State, given: Given) -> Adv
     }
 }
 
+// None pending.
+fn no_list() -> MachineData
+    ensures { λ r. ⌜ r ≡ noList ⌝ }
+{
+    MachineData {
+        values: [0i32; DATA],
+        count: 0,
+    }
+}
+
 // A fresh channel with the data of a list.
 pub fn fresh(list: MachineData) -> Channel
     ensures { λ r. ⌜ r ≡ freshChannel list ⌝ }
 {
+    with_list(list, State::fresh())
+}
+
+// What is pending behind so many cycles: each drops it.
+fn behind(pending: MachineData, cycles: usize) -> MachineData
+    ensures { λ r. ⌜ r ≡ behind cycles pending ⌝ }
+{
+    if cycles == 0 { pending } else { no_list() }
+}
+
+// A channel with another list and a state, with none pending.
+pub fn with_list(list: MachineData, state: State) -> Channel
+    ensures { λ r. ⌜ r ≡ withList list state ⌝ }
+{
     Channel {
         list,
-        state: State::fresh(),
+        state,
+        pending: no_list(),
     }
 }
 
-// A channel with another state: the one place where a cycle's state goes into a channel.
-pub fn with_state(channel: Channel, state: State) -> Channel
-    ensures { λ r. ⌜ r ≡ withState channel state ⌝ }
+// A channel behind so many cycles that leave this state: the one place where a cycle's state goes into a channel, and where what
+// is pending is dropped.
+pub fn after_cycles(channel: Channel, state: State, cycles: usize) -> Channel
+    ensures { λ r. ⌜ r ≡ afterCycles cycles channel state ⌝ }
 {
     let list = channel.list;
-    Channel { list, state }
+    let pending = channel.pending;
+    Channel {
+        list,
+        state,
+        pending: behind(pending, cycles),
+    }
 }
 
 // A cycle of a state beside its data, with no copy of them.
@@ -103,7 +136,7 @@ pub fn cycle(channel: Channel, given: Given) -> Outcome
     let after = cycled.state;
     let causes = cycled.causes;
     Outcome {
-        channel: with_state(channel, after),
+        channel: after_cycles(channel, after, 1),
         word: cycled.word,
         causes,
     }

@@ -6,7 +6,8 @@ use Rattle.channel.specs.declared.Channel.{Channel}
 use Rattle.log.specs.declared.LogRun.{LogRun}
 use Rattle.log.specs.Run.{ranOf}
 use Rattle.single.specs.Single.{singleOf}
-use Rattle.demand_3.specs.Calls.{Call, single, logged, own, Words, Answered, cycled, ran, Answers, none, then}
+use Rattle.pending.specs.Pending.{askedOf, commitOf}
+use Rattle.demand_3.specs.Calls.{Call, single, logged, asks, commits, own, Words, Answered, cycled, ran, asked, took, Answers, none, then}
 
 -- ---- an answer for every call
 
@@ -27,6 +28,8 @@ answer c (logged s o words out) =
       words = _;
       is = ran r (x .out) refl;
     }
+answer c (asks words r o) = record { channel = askedOf c words r o .channel; words = []; is = asked (askedOf c words r o) refl }
+answer c commits = record { channel = commitOf c .channel; words = []; is = took (commitOf c) refl }
 
 unfoldable pub answered : (c : Channel) (xs : List Call) → (ws : List Words) × Answers c xs ws
 answered c [] = ([], none)

@@ -34,7 +34,7 @@ use Rattle.laws.proofs.Bools.{if-case, not-both, or-left}
 use Rattle.demand_2.proofs.Demand2.{no-weaker, cause-met}
 use Rattle.demand_3.proofs.Stops.{Grown, grown, off-grown, Counting, WellFormed, counting, formed}
 use Rattle.demand_3.proofs.OfCauses.{no-stronger, makes-fresh}
-use Rattle.demand_3.proofs.OfComparison.{brightness, Lit, lit, expires}
+use Rattle.demand_3.proofs.OfComparison.{brightness, Lit, lit, bright, expires}
 use Rattle.demand_3.proofs.OfSelection.{selected-number, delay-next}
 
 -- what every state has before a cycle, with the list in force in it
@@ -61,6 +61,10 @@ fresh-ready m = record { counting = Counting.free; left = omega arith; delay = o
 -- how near the end of F, or of the pulses, a state is: 2000 at the end
 unfoldable pub alarm : State → ℕ
 alarm s = max (brightness (s .kept .fault)) (2000 * (levelOf (s .stop) / 5))
+
+pub alarm-on : (s : State) (t : ℕ) → T (s .kept .fault .on) → s .kept .fault .left ≤ t → 2000 ≤ alarm s + t
+unfolding alarm
+alarm-on s t o h = omega (arith, bright (s .kept .fault) t o h)
 
 pub alarm-ends : (m : MachineData) (s : State) → Sound m s → T (active (m .values) (s .kept .choice .effective)) → 2000 ≤ alarm s → 4 ≤ levelOf (s .stop)
 unfolding alarm
@@ -173,23 +177,33 @@ module _ (m : MachineData) (s : State) (g : Given) where
   -- ---- F, where nothing is cleared
 
   pub record Alarmed (x : State) : Type 0 where
-    pub lights : Stands 10 → 2000 ≤ alarm x + numberOf d 34
+    pub stays : T (s .kept .fault .on) → T (x .kept .fault .on)
     pub sooner : (j : ℕ) → j < 1000 → 2000 ≤ alarm s + suc j → 2000 ≤ alarm x + j
 
-  pub alarmed-next : clearsIn m s g ≡ false → Ready m s → Alarmed (next m s g)
+  pub alarmed-next : clearsIn m s g ≡ false → Alarmed (next m s g)
   unfolding alarm next
-  alarmed-next e q = go (usableOf m (g .reading)) refl
+  alarmed-next e = go (usableOf m (g .reading)) refl
     where
       go : (b : Bool) → usableOf m (g .reading) ≡ b → Alarmed (next m s g)
       go true u =
           let k : levelOf (s .stop) ≤ levelOf (usableNext m s g (findingsOf m s g) (clearsIn m s g) (strongestIn m s g) .stop) = simp u at (no-weaker m s g e) in
           simp (u, e)
           (record {
-            lights = λ t. omega (arith, lit-in .lights (differs-10 t) (q .left));
+            stays = lit-in .stays;
             sooner = λ j a h.
                 by-cases (decLe 2000 (brightness (s .kept .fault) + suc j)) (λ l. omega (arith, lit-in .sooner j a l)) (λ l. omega (arith, simp e at k));
           })
-      go false u = simp u (record { lights = λ _. omega arith; sooner = λ j a b. omega arith })
+      go false u = simp u (record { stays = λ o. o; sooner = λ j a b. omega arith })
+
+  -- cause 10 sets F
+  pub on-10 : Stands 10 → T (next m s g .kept .fault .on)
+  unfolding rowsOf causeOf
+  on-10 t =
+      let e = not-cleared 10 (λ q. omega arith) t in
+      by-cycle (λ x. T (x .kept .fault .on)) (λ u. simp e (lit-in .set (differs-10 t))) (λ u. absurd (unused u t))
+    where
+      unused : usableOf m (g .reading) ≡ false → Stands 10 → ⊥
+      unused u t = simp u at t
 
   -- ---- a stop that is entered
 

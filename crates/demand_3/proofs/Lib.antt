@@ -9,10 +9,12 @@ pub mod OfLog
 pub mod Stops
 pub mod Cycles
 pub mod Turns
+pub mod Commits
 pub mod Selections
 pub mod Traces
 pub mod Logs
 pub mod Calls
 pub mod Answered
 pub mod Demand3
+pub mod OneList
 pub mod ShownOnly

@@ -3,22 +3,23 @@
 use Prim.Native.Nat.{ℕ, zero, suc, _+_, _*_}
 use mathlib.Core.Bool.{Bool, true, false, cond}
 use mathlib.Core.List.{List, [], _∷_, _++_}
-use mathlib.Core.Path.{_≡_, refl, ap, subst}
+use mathlib.Core.Path.{_≡_, refl, sym, ap, subst}
 use native.Mathlib.Omega.{arith}
 use lib.Dec.{ltb}
 use lib.ListN.{getD, length, drop}
+use Rattle.machine_data.specs.declared.MachineData.{MachineData}
 use Rattle.device.specs.Device.{deviceOf}
 use Rattle.seven.specs.declared.CycleRecord.{CycleRecord}
 use Rattle.records.specs.Records.{LogRead, records, fault, logOf}
 use Rattle.state.specs.declared.State.{State}
 use Rattle.state.specs.declared.Given.{Given}
 use Rattle.channel.specs.declared.Channel.{Channel}
-use Rattle.channel.specs.Cycle.{next, withState}
+use Rattle.channel.specs.Cycle.{behind, next, withState}
 use Rattle.channel.specs.Word.{word}
 use Rattle.refusal.specs.declared.Refusal.the-variants.{WrongLog, ShortOutput}
 use Rattle.log.specs.Run.{deviceCycle, lastOf, linesOf, bothOf, Ran, refusing, running, byRecords, ranOf}
 use Rattle.demand_3.specs.Calls.{Side, as-a, as-b, own, Words, wordsAt, wordsFrom, answeredWords}
-use Rattle.demand_3.specs.History.{givenOf, givensOf, recordsRun}
+use Rattle.demand_3.specs.History.{givenOf, givensOf, recordsRun, Event, asCycles}
 use Rattle.demand_3.proofs.OfDevice.{Over, over-first, over-second}
 use Rattle.demand_3.proofs.Cycles.{k-next}
 use Rattle.demand_3.proofs.Traces.{Trace, done, step}
@@ -91,8 +92,8 @@ line-words s v w out n = λ j. first-words s v w out j ∷ later-words s (own s 
 -- ---- its cycles, and what they give
 
 log-trace : (s : Side) (c o : Channel) (rs : List CycleRecord) (rest : List ℕ) →
-    Trace (c .list) (c .state) (givensOf s (o .list) (o .state .k) rs) (wordsFrom s (lines s c o rs ++ rest) 0 (length rs)) (last s c o rs)
-unfolding givensOf
+    Trace (c .list) (c .state) (asCycles (givensOf s (o .list) (o .state .k) rs)) (wordsFrom s (lines s c o rs ++ rest) 0 (length rs)) (c .list) (last s c o rs)
+unfolding givensOf asCycles
 log-trace s c o [] rest = unfold wordsFrom in rw (last-none s c o) done
 log-trace s c o (r ∷ rs) rest =
     let c′ = after s c o r in
@@ -100,29 +101,45 @@ log-trace s c o (r ∷ rs) rest =
     let out = lines s c′ o′ rs ++ rest in
     rw (last-turn s c o r rs, lines-turn s c o r rs, line-words s (wordIn s c o r) (wordIn (other s) o c r) out (length rs))
     (step (record { word-is = refl; over = line-over s (wordIn s c o r) (wordIn (other s) o c r) })
-    (subst (λ k. Trace (c .list) (c′ .state) (givensOf s (o .list) k rs) (wordsFrom s out 0 (length rs)) (last s c′ o′ rs))
+    (subst (λ k. Trace (c .list) (c′ .state) (asCycles (givensOf s (o .list) k rs)) (wordsFrom s out 0 (length rs)) (c .list) (last s c′ o′ rs))
     (k-next (o .list) (o .state) (givenIn (other s) o c r))
     (log-trace s c′ o′ rs rest)))
 
--- a channel c becomes c′ over the cycles gs, in which the words ws are given, and keeps its data
-pub record Leads (c : Channel) (gs : List Given) (ws : List Words) (c′ : Channel) : Type 0 where
-  pub list : c′ .list ≡ c .list
-  pub trace : Trace (c .list) (c .state) gs ws (c′ .state)
+-- a cycle for each record
+length-givens : (s : Side) (m : MachineData) (k : ℕ) (rs : List CycleRecord) → length (givensOf s m k rs) ≡ length rs
+unfolding givensOf
+length-givens s m k [] = refl
+length-givens s m k (r ∷ rs) = ap suc (length-givens s m _ rs)
 
-refused-leads : (s : Side) (c o : Channel) → Leads c [] [] (own s (own s c o) (own s o c))
-refused-leads as-a c o = record { list = refl; trace = done }
-refused-leads as-b c o = record { list = refl; trace = done }
+-- a channel c becomes c′ over the events es, in whose cycles the words ws are given, and p is then pending
+pub record Leads (c : Channel) (es : List Event) (ws : List Words) (p : MachineData) (c′ : Channel) : Type 0 where
+  pub pending : c′ .pending ≡ p
+  pub trace : Trace (c .list) (c .state) es ws (c′ .list) (c′ .state)
+
+-- the same of cycles alone: any of them drops what is pending
+abbrev pub CyclesLead : Channel → List Given → List Words → Channel → Type 0
+CyclesLead c gs ws c′ = Leads c (asCycles gs) ws (behind (length gs) (c .pending)) c′
+
+refused-leads : (s : Side) (c o : Channel) → CyclesLead c [] [] (own s (own s c o) (own s o c))
+unfolding asCycles
+refused-leads as-a c o = record { pending = refl; trace = done }
+refused-leads as-b c o = record { pending = refl; trace = done }
 
 running-leads : (s : Side) (c o : Channel) (out : List ℕ) (rs : List CycleRecord) →
     let x = running (own s c o) (own s o c) out rs in
-    Leads c (givensOf s (o .list) (o .state .k) rs) (wordsFrom s (x .out) 0 (length rs)) (own s (x .a) (x .b))
-running-leads as-a c o out rs = record { list = refl; trace = log-trace as-a c o rs (drop (3 * length rs) out) }
-running-leads as-b c o out rs = record { list = refl; trace = log-trace as-b c o rs (drop (3 * length rs) out) }
+    CyclesLead c (givensOf s (o .list) (o .state .k) rs) (wordsFrom s (x .out) 0 (length rs)) (own s (x .a) (x .b))
+running-leads s c o out rs = go s (ap (λ n. behind n (c .pending)) (sym (length-givens s (o .list) (o .state .k) rs)))
+  where
+    go : (s : Side) → behind (length rs) (c .pending) ≡ behind (length (givensOf s (o .list) (o .state .k) rs)) (c .pending) →
+        let x = running (own s c o) (own s o c) out rs in
+        CyclesLead c (givensOf s (o .list) (o .state .k) rs) (wordsFrom s (x .out) 0 (length rs)) (own s (x .a) (x .b))
+    go as-a e = record { pending = e; trace = log-trace as-a c o rs (drop (3 * length rs) out) }
+    go as-b e = record { pending = e; trace = log-trace as-b c o rs (drop (3 * length rs) out) }
 
 -- a log that leaves x
 abbrev pub LogLeads : Side → Channel → Channel → LogRead → Ran → Type 0
 LogLeads s c o l x =
-    Leads c (givensOf s (o .list) (o .state .k) (recordsRun (x .answer) l)) (answeredWords s (x .answer) (x .out)) (own s (x .a) (x .b))
+    CyclesLead c (givensOf s (o .list) (o .state .k) (recordsRun (x .answer) l)) (answeredWords s (x .answer) (x .out)) (own s (x .a) (x .b))
 
 pub ran-leads : (s : Side) (c o : Channel) (words out : List ℕ) → LogLeads s c o (logOf words) (ranOf (own s c o) (own s o c) words out)
 unfolding ranOf givensOf

@@ -1,5 +1,5 @@
--- Laws of F: a cause that sets it lights it, each later usable cycle takes it a step nearer to its end, and at its end its time is over. By its
--- brightness, one number for F and its count. Assumes nothing.
+-- Laws of F: a cause sets it, it stays, each later usable cycle takes it a step nearer to its end, and at its end its time is over. By its brightness, one
+-- number for F and its count. Assumes nothing.
 use Prim.Native.Nat.{ℕ, suc, _+_, _-_, _≤_, _<_}
 use mathlib.Core.Bool.{Bool, true, false, cond, _&&_}
 use mathlib.Core.List.{List}
@@ -23,7 +23,8 @@ brightness f = cond (f .on) (2000 - f .left) 0
 -- F from one usable cycle to the next, where nothing is cleared
 pub record Lit (d : List ℤ) (differs : Bool) (f g : Fault) : Type 0 where
   pub left : f .left ≤ numberOf d 34 → g .left ≤ numberOf d 34
-  pub lights : T differs → f .left ≤ numberOf d 34 → 2000 ≤ brightness g + numberOf d 34
+  pub set : T differs → T (g .on)
+  pub stays : T (f .on) → T (g .on)
   pub sooner : (j : ℕ) → j < 1000 → 2000 ≤ brightness f + suc j → 2000 ≤ brightness g + j
 
 pub lit : (d : List ℤ) (differs : Bool) (f : Fault) → Lit d differs f (faultNext d differs f)
@@ -31,9 +32,18 @@ unfolding faultNext brightness
 lit d differs f = go (f .on) differs
   where
     go : (a b : Bool) → Lit d b (record { on = a; left = f .left }) (faultNext d b (record { on = a; left = f .left }))
-    go true b = record { left = omega arith; lights = λ _. omega arith; sooner = omega arith }
-    go false true = record { left = omega arith; lights = λ _. omega arith; sooner = omega arith }
-    go false false = record { left = omega arith; lights = λ t. absurd t; sooner = omega arith }
+    go true b = record { left = omega arith; set = λ _. tt; stays = λ _. tt; sooner = omega arith }
+    go false true = record { left = omega arith; set = λ _. tt; stays = λ _. tt; sooner = omega arith }
+    go false false = record { left = omega arith; set = λ t. t; stays = λ t. t; sooner = omega arith }
+
+-- F is at its end in as many cycles as its count says
+pub bright : (f : Fault) (t : ℕ) → T (f .on) → f .left ≤ t → 2000 ≤ brightness f + t
+unfolding brightness
+bright f t o h = go (f .on) o
+  where
+    go : (b : Bool) → T b → 2000 ≤ cond b (2000 - f .left) 0 + t
+    go true o = omega arith
+    go false o = absurd o
 
 pub expires : (f : Fault) → 2000 ≤ brightness f → T (expired f)
 unfolding brightness expired

@@ -6,7 +6,7 @@ use native.Mathlib.Decide.{decLe}
 use native.Mathlib.Omega.{arith}
 
 -- what holds at n, and at each step from n on, holds from n on
-from-on : (P : ℕ → Type 0) (n : ℕ) → P n → ((m : ℕ) → n ≤ m → P m → P (suc m)) → (m : ℕ) → n ≤ m → P m
+pub from-on : (P : ℕ → Type 0) (n : ℕ) → P n → ((m : ℕ) → n ≤ m → P m → P (suc m)) → (m : ℕ) → n ≤ m → P m
 from-on P n p step zero h = subst P (omega arith) p
 from-on P n p step (suc m) h =
     let ih = from-on P n p step m in

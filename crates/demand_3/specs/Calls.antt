@@ -1,8 +1,10 @@
--- The calls of demand 3 and what they answer: document 01, "The runs of demand 3".
+-- The calls of demand 3 and what they answer: document 01, "The runs of demand 3", and W7.
 use Prim.Native.Nat.{ℕ, zero, suc, _+_, _*_}
 use mathlib.Core.Path.{_≡_}
 use mathlib.Core.List.{List, [], _∷_, _++_}
 use lib.ListN.{getD}
+use Rattle.inputs.specs.declared.Reading.{Reading}
+use Rattle.report.specs.declared.Report.{Report}
 use Rattle.state.specs.declared.Given.{Given}
 use Rattle.channel.specs.declared.Channel.{Channel}
 use Rattle.log.specs.declared.LogRun.{LogRun}
@@ -12,6 +14,9 @@ use Rattle.log.specs.Run.{ranOf}
 use Rattle.log.specs.Left.{leftBy}
 use Rattle.single.specs.declared.SingleOutcome.{SingleOutcome}
 use Rattle.single.specs.Single.{singleOf}
+use Rattle.pending.specs.declared.Asked.{Asked}
+use Rattle.pending.specs.declared.CommitRun.{CommitRun}
+use Rattle.pending.specs.Pending.{askedOf, commitOf}
 
 -- "with the working channel as A or B"
 pub data Side : Type 0 where
@@ -19,10 +24,13 @@ pub data Side : Type 0 where
 
 -- "a single cycle, then the device word of its channel word and the other's (position, input word, acknowledgement; the report and
 -- the other channel's word are anything at all)"; "a log, accepted, empty or refused, with the working channel as A or B beside any
--- other channel": its words and the output lent to it
+-- other channel": its words and the output lent to it. W7: "Asking, refused or not, and committing, with or without a pending list, join
+-- the calls of demand 3": the words of the list, the position and inputs, and the report; a commit is given nothing
 pub data Call : Type 0 where
   single : Given → ℕ → Call
   logged : Side → Channel → List ℕ → List ℕ → Call
+  asks : List ℕ → Reading → Report → Call
+  commits : Call
 
 -- of what A has and what B has, the working channel's: `own s a b`; the other's is `own s b a`
 abbrev pub own : {X : Type 0} → Side → X → X → X
@@ -57,6 +65,8 @@ pub data Answered (c : Channel) : Call → Channel → List Words → Type 0 whe
       Answered c (single g other) (r .channel) (record { channel = r .word; device = r .device } ∷ [])
   ran : {s : Side} {o : Channel} {words out : List ℕ} (r : LogRun) (out′ : List ℕ) → leftBy r out′ ≡ ranOf (own s c o) (own s o c) words out →
       Answered c (logged s o words out) (own s (r .a) (r .b)) (answeredWords s (r .answer) out′)
+  asked : {words : List ℕ} {r : Reading} {o : Report} (a : Asked) → a ≡ askedOf c words r o → Answered c (asks words r o) (a .channel) []
+  took : (a : CommitRun) → a ≡ commitOf c → Answered c commits (a .channel) []
 
 -- "Each call gets the working channel as the last one returned or left it"
 pub data Answers : Channel → List Call → List Words → Type 0 where

@@ -1,9 +1,12 @@
--- Cause 14 and the watches stand where W6 says so of the cycles, and only there: by the law of a direction over numbered cycles, for either sign. Assumes nothing.
-use Prim.Native.Nat.{ℕ, suc}
+-- Cause 14 and the watches stand where W6 says so of the cycles, and only there: by the law of a direction over numbered cycles, for either sign, of the
+-- directions that cycles alone make from none on; those of a history are the same as long as no commit ends them. Assumes nothing.
+use Prim.Native.Nat.{ℕ, zero, suc, _+_, _≤_, min}
 use mathlib.Core.Bool.{Bool, true, false, cond, _&&_, _||_}
-use mathlib.Core.List.{List}
-use mathlib.Core.Logic.{_↔_}
+use mathlib.Core.List.{List, [], _∷_, List·Memᴰ, List·Memᴰ·head, List·Memᴰ·tail, List·Memᴰ·cases-cons}
+use mathlib.Core.Logic.{_⊎_, inl, inr, by-cases}
 use mathlib.Core.Path.{_≡_, refl, sym, ap, _∙_, subst}
+use native.Mathlib.Decide.{decLe}
+use native.Mathlib.Omega.{arith}
 use lib.Dec.{T}
 use lib.IntN.{ℤ}
 use lib.Ieee.Fits.{and-i}
@@ -12,6 +15,7 @@ use Rattle.machine_data.specs.declared.MachineData.{MachineData}
 use Rattle.machine_data.specs.Data.{numberOf, functionOf}
 use Rattle.usable_inputs.specs.Usable.{usableOf}
 use Rattle.runs.specs.Running.{Running}
+use Rattle.runs.specs.Since.{SetSince}
 use Rattle.direction.specs.declared.Sign.{Sign}
 use Rattle.direction.specs.declared.Sign.the-variants.{Positive, Negative}
 use Rattle.direction.specs.declared.Direction.{Direction}
@@ -24,11 +28,13 @@ use Rattle.direction_laws.specs.Since.{bound, Beyond}
 use Rattle.direction_laws.proofs.Since as D
 use Rattle.state.specs.declared.State.{State}
 use Rattle.state.specs.declared.Given.{Given}
+use Rattle.state.specs.State.{freshState}
 use Rattle.judge.specs.Causes.{usableRows, rowsOf}
+use Rattle.commit.specs.Commit.{committed}
 use Rattle.channel.specs.Cycle.{next}
-use Rattle.demand_3.specs.History.{history}
-use Rattle.demand_3.specs.Claims.{usableIn, causeOf, Stands}
-use Rattle.direction_history.specs.Stands.{ofSign, watchingIn, freeIn, positionIn, delayIn, OversteppedIn, Cause14, WatchRuns, NoneStands}
+use Rattle.demand_3.specs.History.{lastOf, allCommitted, listIn, before}
+use Rattle.demand_3.specs.Claims.{usableIn, causeOf}
+use Rattle.direction_history.specs.Stands.{Directed, Undirected, ofSign, watchingIn, freeIn, positionIn, delayIn, OversteppedIn, Begins, at-first, ended, From, Reached, listFrom, givenFrom, found, left, WatchedAfter, Cause14, WatchStands, WatchRuns, NoneStands}
 
 -- ---- a cycle
 
@@ -46,7 +52,8 @@ module _ (m : MachineData) (s : State) (g : Given) where
   unfolding next watchedOf
   next-directions = go (usableOf m (g .reading)) refl (functionOf d 5) refl
     where
-      go : (u : Bool) → usableOf m (g .reading) ≡ u → (f : Bool) → functionOf d 5 ≡ f → next m s g .kept .directions ≡ cond (u && f) (directionsNext d (g .reading) met) met
+      go : (u : Bool) → usableOf m (g .reading) ≡ u → (f : Bool) → functionOf d 5 ≡ f →
+          next m s g .kept .directions ≡ cond (u && f) (directionsNext d (g .reading) met) met
       go true p true q = simp (p, q)
       go true p false q = simp (p, q)
       go false p f q = simp p
@@ -62,26 +69,38 @@ module _ (m : MachineData) (s : State) (g : Given) where
       go true p false q = simp (p, q)
       go false p f q = simp p
 
--- ---- numbered cycles: what a cycle finds of the directions is what the cycle before left, in the first one none
+-- ---- numbered cycles from one before which there are no directions: what a cycle finds of them is what the one before left
 
 part : {X Y : Type 0} (f : X → Y) (u : Bool) (x y : X) → f (cond u x y) ≡ cond u (f x) (f y)
 part f true x y = refl
 part f false x y = refl
 
-module _ (L : ℕ → MachineData) (S : ℕ → State) (G : ℕ → Given) (none : S 0 .kept .directions ≡ noDirections)
-    (goes : (n : ℕ) → S (suc n) .kept .directions ≡ next (L n) (S n) (G n) .kept .directions) where
+of-sign : (f : Sign → Bool) (sign : Sign) → T (f sign) → T (f Positive || f Negative)
+of-sign f Positive t = or-left (f Positive) (f Negative) t
+of-sign f Negative t = or-right (f Positive) (f Negative) t
+
+module _ (L : ℕ → MachineData) (G : ℕ → Given) where
+  directionsAt : ℕ → Directions
+  directionsAt zero = noDirections
+  directionsAt (suc n) = cond (watchingIn L G n) (directionsNext (L n .values) (G n .reading) (directionsAt n)) (directionsAt n)
+
   abbrev directionBefore : Sign → ℕ → Direction
-  directionBefore sign n = ofSign sign (S n .kept .directions)
+  directionBefore sign n = ofSign sign (directionsAt n)
 
   fresh : (sign : Sign) → directionBefore sign 0 ≡ noDirection
-  fresh Positive = ap (ofSign Positive) none
-  fresh Negative = ap (ofSign Negative) none
+  unfolding directionsAt
+  fresh Positive = refl
+  fresh Negative = refl
+
+  -- what a cycle makes of a direction by the data d
+  abbrev turned : List ℤ → Sign → ℕ → Direction → Direction
+  turned d sign n x = directionNext d sign (freeIn L G sign n) (positionIn L G n) x
 
   direction-at : (sign : Sign) (n : ℕ) →
-      directionBefore sign (suc n) ≡ cond (watchingIn L G n) (directionNext (L n .values) sign (freeIn L G sign n) (positionIn L G n) (directionBefore sign n)) (directionBefore sign n)
-  unfolding directionsNext
-  direction-at Positive n = ap (ofSign Positive) (goes n ∙ next-directions (L n) (S n) (G n)) ∙ part (ofSign Positive) (watchingIn L G n) _ _
-  direction-at Negative n = ap (ofSign Negative) (goes n ∙ next-directions (L n) (S n) (G n)) ∙ part (ofSign Negative) (watchingIn L G n) _ _
+      directionBefore sign (suc n) ≡ cond (watchingIn L G n) (turned (L n .values) sign n (directionBefore sign n)) (directionBefore sign n)
+  unfolding directionsAt directionsNext
+  direction-at Positive n = part (ofSign Positive) (watchingIn L G n) _ _
+  direction-at Negative n = part (ofSign Negative) (watchingIn L G n) _ _
 
   module _ (sign : Sign) where
     beyond-since : (n : ℕ) → T (beyondBy (L n .values) sign (positionIn L G n) (directionBefore sign (suc n) .watch)) →
@@ -92,13 +111,19 @@ module _ (L : ℕ → MachineData) (S : ℕ → State) (G : ℕ → Given) (none
         T (beyondBy (L n .values) sign (positionIn L G n) (directionBefore sign (suc n) .watch))
     since-beyond = D.since-beyond (watchingIn L G) (freeIn L G sign) (positionIn L G) (λ n. L n .values) sign (directionBefore sign) (fresh sign) (direction-at sign)
 
-  -- cause 14, by the directions that cycle n leaves
-  stands-at : (n : ℕ) → causeOf 14 (rowsOf (L n) (S n) (G n)) .stands ≡ watchingIn L G n && overstepped (L n .values) (positionIn L G n) (S (suc n) .kept .directions)
-  stands-at n = stands-14 (L n) (S n) (G n) ∙ ap (λ (x : Directions). watchingIn L G n && overstepped (L n .values) (positionIn L G n) x) (sym (goes n))
+    watch-set : (n : ℕ) → SetSince (watchingIn L G) (bound (freeIn L G sign)) (freeIn L G sign) (delayIn L G) n → T (D.stands (directionBefore sign (suc n) .watch))
+    watch-set = D.watch-set (watchingIn L G) (freeIn L G sign) (positionIn L G) (λ n. L n .values) sign (directionBefore sign) (fresh sign) (direction-at sign)
 
-  pub cause-at : (n : ℕ) → Stands L S G n 14 ↔ OversteppedIn L G n
+    set-watch : (n : ℕ) → T (D.stands (directionBefore sign (suc n) .watch)) → SetSince (watchingIn L G) (bound (freeIn L G sign)) (freeIn L G sign) (delayIn L G) n
+    set-watch = D.set-watch (watchingIn L G) (freeIn L G sign) (positionIn L G) (λ n. L n .values) sign (directionBefore sign) (fresh sign) (direction-at sign)
+
+  -- a direction is overstepped in cycle n, by the directions that it leaves
+  abbrev oversteppedAt : ℕ → Bool
+  oversteppedAt n = watchingIn L G n && overstepped (L n .values) (positionIn L G n) (directionsAt (suc n))
+
+  overstepped-there : (n : ℕ) → T (oversteppedAt n) → OversteppedIn L G n
   unfolding overstepped
-  cause-at n = (λ t. there (watchingIn L G n) refl _ refl _ refl (subst T (stands-at n) t), back)
+  overstepped-there n t = there (watchingIn L G n) refl _ refl _ refl t
     where
       there : (u : Bool) → watchingIn L G n ≡ u →
           (a : Bool) → beyondBy (L n .values) Positive (positionIn L G n) (directionBefore Positive (suc n) .watch) ≡ a →
@@ -108,65 +133,233 @@ module _ (L : ℕ → MachineData) (S : ℕ → State) (G : ℕ → Given) (none
       there true p false q false r t = absurd t
       there false p a q b r t = absurd t
 
-      of-sign : (sign : Sign) → T (beyondBy (L n .values) sign (positionIn L G n) (directionBefore sign (suc n) .watch)) →
-          T (beyondBy (L n .values) Positive (positionIn L G n) (directionBefore Positive (suc n) .watch) || beyondBy (L n .values) Negative (positionIn L G n) (directionBefore Negative (suc n) .watch))
-      of-sign Positive t = or-left (beyondBy (L n .values) Positive (positionIn L G n) (directionBefore Positive (suc n) .watch)) (beyondBy (L n .values) Negative (positionIn L G n) (directionBefore Negative (suc n) .watch)) t
-      of-sign Negative t = or-right (beyondBy (L n .values) Positive (positionIn L G n) (directionBefore Positive (suc n) .watch)) (beyondBy (L n .values) Negative (positionIn L G n) (directionBefore Negative (suc n) .watch)) t
+  overstepped-back : (n : ℕ) → OversteppedIn L G n → T (oversteppedAt n)
+  unfolding overstepped
+  overstepped-back n o =
+      and-i (watchingIn L G n) (overstepped (L n .values) (positionIn L G n) (directionsAt (suc n))) (o .watching)
+      (of-sign (λ sign. beyondBy (L n .values) sign (positionIn L G n) (directionBefore sign (suc n) .watch)) (o .sign) (since-beyond (o .sign) n (o .beyond)))
 
-      back : OversteppedIn L G n → Stands L S G n 14
-      back o = subst T (sym (stands-at n)) (and-i (watchingIn L G n) (overstepped (L n .values) (positionIn L G n) (S (suc n) .kept .directions)) (o .watching) (of-sign (o .sign) (since-beyond (o .sign) n (o .beyond))))
-
--- ---- one list and its own history
-
-pub cause-14 : Cause14
-unfolding history
-cause-14 m cs n = cause-at (λ i. m) (history m cs) cs refl (λ i. refl) n
-
--- a watch that stands has an extreme
-extreme-of : (w : Watch) → T (D.stands w) → (e : ℤ) × (w ≡ On e)
-extreme-of Off t = absurd t
-extreme-of (On e) t = (e, refl)
+-- ---- with the function on and one delay, in the cycles up to i
 
 and-true : (a : Bool) → a && true ≡ a
 and-true true = refl
 and-true false = refl
 
-module _ (m : MachineData) (on : functionOf (m .values) 5 ≡ true) (cs : ℕ → Given) (sign : Sign) where
-  abbrev used : ℕ → Bool
-  used = usableIn (λ i. m) cs
+module _ (L : ℕ → MachineData) (G : ℕ → Given) (i t : ℕ) (one : (k : ℕ) → k ≤ i → Directed (L k) × (numberOf (L k .values) 70 ≡ t)) (sign : Sign) where
+  -- the data of cycle n, and from i on those of i
+  abbrev data-at : ℕ → List ℤ
+  data-at n = L (min n i) .values
 
-  abbrev before : ℕ → Direction
-  before n = ofSign sign (history m cs n .kept .directions)
+  counted : ℕ → Direction
+  counted zero = noDirection
+  counted (suc n) = cond (usableIn L G n) (turned L G (data-at n) sign n (counted n)) (counted n)
 
-  starts : before 0 ≡ noDirection
-  unfolding history
-  starts = fresh (λ i. m) (history m cs) cs refl (λ i. refl) sign
+  goes : (n : ℕ) → counted (suc n) ≡ cond (usableIn L G n) (turned L G (data-at n) sign n (counted n)) (counted n)
+  unfolding counted
+  goes n = refl
 
-  -- with the function on every usable cycle counts
-  counts : (n : ℕ) → before (suc n) ≡ cond (used n) (directionNext (m .values) sign (freeIn (λ i. m) cs sign n) (positionIn (λ i. m) cs n) (before n)) (before n)
-  unfolding history
-  counts n =
-      direction-at (λ i. m) (history m cs) cs refl (λ i. refl) sign n
-      ∙ ap (λ (u : Bool). cond u (directionNext (m .values) sign (freeIn (λ i. m) cs sign n) (positionIn (λ i. m) cs n) (before n)) (before n)) (ap (λ (f : Bool). used n && f) on ∙ and-true (used n))
+  abbrev met-at : ℕ → Direction
+  met-at n = directionBefore L G sign n
 
-  there : (n : ℕ) → T (used n) → (e : ℤ) × (before (suc n) .watch ≡ On e) → Running used (bound (freeIn (λ i. m) cs sign)) (numberOf (m .values) 70) n
-  there n u w =
-      D.watch-running used (freeIn (λ i. m) cs sign) (positionIn (λ i. m) cs) (λ n. m .values) sign before starts counts (numberOf (m .values) 70) (λ n. refl) n u
-      (subst (λ (w : Watch). T (D.stands w)) (sym (w .1)) tt)
+  -- every usable cycle counts
+  counts : (n : ℕ) → n ≤ i → met-at (suc n) ≡ cond (usableIn L G n) (turned L G (data-at n) sign n (met-at n)) (met-at n)
+  counts n h = direction-at L G sign n ∙ (λ j. cond (watches j) (turned L G (data-is j) sign n (met-at n)) (met-at n))
+    where
+      watches : watchingIn L G n ≡ usableIn L G n
+      watches = ap (λ (f : Bool). usableIn L G n && f) (one n h .0) ∙ and-true (usableIn L G n)
 
-  back : (n : ℕ) → Running used (bound (freeIn (λ i. m) cs sign)) (numberOf (m .values) 70) n → (e : ℤ) × (before (suc n) .watch ≡ On e)
-  back n r =
-      extreme-of (before (suc n) .watch)
-      (D.running-watch used (freeIn (λ i. m) cs sign) (positionIn (λ i. m) cs) (λ n. m .values) sign before starts counts (numberOf (m .values) 70) (λ n. refl) n r)
+      data-is : L n .values ≡ data-at n
+      data-is = let e : n ≡ min n i = omega (arith, h) in ap (λ k. L k .values) e
+
+  same : (n : ℕ) → n ≤ suc i → counted n ≡ met-at n
+  unfolding counted
+  same zero h = sym (fresh L G sign)
+  same (suc n) h =
+      ap (λ x. cond (usableIn L G n) (turned L G (data-at n) sign n x) x) (same n (omega (arith, h))) ∙ sym (counts n (omega (arith, h)))
+
+  none : counted 0 ≡ noDirection
+  unfolding counted
+  none = refl
+
+  delays : (n : ℕ) → numberOf (data-at n) 70 ≡ t
+  delays n = one (min n i) (omega arith) .1
+
+  watch-running : T (usableIn L G i) → T (D.stands (met-at (suc i) .watch)) → Running (usableIn L G) (bound (freeIn L G sign)) t i
+  watch-running u h =
+      D.watch-running (usableIn L G) (freeIn L G sign) (positionIn L G) data-at sign counted none goes t delays i u
+      (subst (λ (x : Direction). T (D.stands (x .watch))) (sym (same (suc i) (omega arith))) h)
+
+  running-watch : Running (usableIn L G) (bound (freeIn L G sign)) t i → T (D.stands (met-at (suc i) .watch))
+  running-watch r =
+      subst (λ (x : Direction). T (D.stands (x .watch))) (same (suc i) (omega arith))
+      (D.running-watch (usableIn L G) (freeIn L G sign) (positionIn L G) data-at sign counted none goes t delays i r)
+
+-- ---- commits
+
+commit-directions : (m : MachineData) (s : State) → committed m s .kept .directions ≡ cond (functionOf (m .values) 5) (s .kept .directions) noDirections
+unfolding committed
+commit-directions m s = refl
+
+-- of lists that have the function, and of some among which one has not
+all-on : (ms : List MachineData) (s : State) → ((m : MachineData) → List·Memᴰ m ms → Directed m) → allCommitted ms s .kept .directions ≡ s .kept .directions
+unfolding allCommitted
+all-on [] s h = refl
+all-on (m ∷ ms) s h =
+    all-on ms (committed m s) (λ l e. h l (List·Memᴰ·tail e)) ∙ commit-directions m s
+    ∙ ap (λ (f : Bool). cond f (s .kept .directions) noDirections) (h m (List·Memᴰ·head refl))
+
+none-stays : (f : Bool) (x : Directions) → x ≡ noDirections → cond f x noDirections ≡ noDirections
+none-stays true x e = e
+none-stays false x e = refl
+
+all-none : (ms : List MachineData) (s : State) → s .kept .directions ≡ noDirections → allCommitted ms s .kept .directions ≡ noDirections
+unfolding allCommitted
+all-none [] s e = e
+all-none (m ∷ ms) s e = all-none ms (committed m s) (commit-directions m s ∙ none-stays (functionOf (m .values) 5) (s .kept .directions) e)
+
+all-end : (ms : List MachineData) (s : State) (m : MachineData) → List·Memᴰ m ms → Undirected m → allCommitted ms s .kept .directions ≡ noDirections
+unfolding allCommitted
+all-end [] s m e f = absurd (elim e [ ])
+all-end (l ∷ ls) s m e f = go (List·Memᴰ·cases-cons e) (λ k. all-end ls (committed l s) m k f)
+  where
+    go : (m ≡ l) ⊎ List·Memᴰ m ls → (List·Memᴰ m ls → allCommitted ls (committed l s) .kept .directions ≡ noDirections) →
+        allCommitted ls (committed l s) .kept .directions ≡ noDirections
+    go (inl q) rest =
+        all-none ls (committed l s)
+        (commit-directions l s ∙ ap (λ (f : Bool). cond f (s .kept .directions) noDirections) (sym (ap (λ (x : MachineData). functionOf (x .values) 5) q) ∙ f))
+    go (inr k) rest = rest k
+
+-- ---- a history
+
+module _ (m : MachineData) (commits : ℕ → List MachineData) (cs : ℕ → Given) where
+  abbrev L : ℕ → MachineData
+  L = listIn m commits
+
+  abbrev S : ℕ → State
+  S = before m commits cs
+
+  begins-none : (c : ℕ) → Begins commits c → found m commits cs c ≡ noDirections
+  unfolding before
+  begins-none c at-first = all-none (commits 0) freshState refl
+  begins-none zero (ended {m = l} e f) = all-end (commits 0) freshState l e f
+  begins-none (suc c) (ended {m = l} e f) = all-end (commits (suc c)) (next (L c) (S c) (cs c)) l e f
+
+  module _ (c i : ℕ) (from : From commits c i) where
+    abbrev Lc : ℕ → MachineData
+    Lc = listFrom m commits cs c
+
+    abbrev Gc : ℕ → Given
+    Gc = givenFrom m commits cs c
+
+    cycle-directions : (j : ℕ) → found m commits cs (c + j) ≡ directionsAt Lc Gc j → left m commits cs (c + j) ≡ directionsAt Lc Gc (suc j)
+    unfolding directionsAt
+    cycle-directions j e =
+        next-directions (L (c + j)) (S (c + j)) (cs (c + j))
+        ∙ ap (λ x. cond (watchingIn Lc Gc j) (directionsNext (Lc j .values) (Gc j .reading) x) x) e
+
+    passed : (n : ℕ) → ((l : MachineData) → List·Memᴰ l (commits (suc n)) → Directed l) → found m commits cs (suc n) ≡ left m commits cs n
+    unfolding before
+    passed n h = all-on (commits (suc n)) (next (L n) (S n) (cs n)) h
+
+    directions-at : (j : ℕ) → j ≤ i → found m commits cs (c + j) ≡ directionsAt Lc Gc j
+    unfolding directionsAt
+    directions-at zero h = let e : c ≡ c + 0 = omega arith in subst (λ n. found m commits cs n ≡ noDirections) e (begins-none c (from .begins))
+    directions-at (suc j) h =
+        let e : suc (c + j) ≡ c + suc j = omega arith in
+        subst (λ n. found m commits cs n ≡ directionsAt Lc Gc (suc j)) e
+        (passed (c + j) (from .goes-on (suc (c + j)) (omega arith) (omega (arith, h))) ∙ cycle-directions j (directions-at j (omega (arith, h))))
+
+    left-at : left m commits cs (c + i) ≡ directionsAt Lc Gc (suc i)
+    left-at = cycle-directions i (directions-at i (omega arith))
+
+    stands-at : causeOf 14 (rowsOf (L (c + i)) (S (c + i)) (cs (c + i))) .stands ≡ oversteppedAt Lc Gc i
+    stands-at =
+        stands-14 (L (c + i)) (S (c + i)) (cs (c + i)) ∙ ap (λ x. watchingIn Lc Gc i && overstepped (Lc i .values) (positionIn Lc Gc i) x) left-at
+
+    -- a watch that stands has an extreme
+    watched : (sign : Sign) → T (D.stands (directionBefore Lc Gc sign (suc i) .watch)) → WatchedAfter m commits cs sign (c + i)
+    watched sign t = subst (λ x. (e : ℤ) × (ofSign sign x .watch ≡ On e)) (sym left-at) (extreme-of (directionBefore Lc Gc sign (suc i) .watch) t)
+      where
+        extreme-of : (w : Watch) → T (D.stands w) → (e : ℤ) × (w ≡ On e)
+        extreme-of Off t = absurd t
+        extreme-of (On e) t = (e, refl)
+
+    stands-if : (sign : Sign) → WatchedAfter m commits cs sign (c + i) → T (D.stands (directionBefore Lc Gc sign (suc i) .watch))
+    stands-if sign w = subst (λ x. T (D.stands (ofSign sign x .watch))) left-at (subst (λ (x : Watch). T (D.stands x)) (sym (w .1)) tt)
+
+pub cause-14 : Cause14
+cause-14 m commits cs c i from =
+    let e = stands-at m commits cs c i from in
+    (λ t. overstepped-there _ _ i (subst T e t), λ o. subst T (sym e) (overstepped-back _ _ i o))
+
+pub watch-stands : WatchStands
+watch-stands m commits cs c i from sign =
+    (λ w. set-watch _ _ sign i (stands-if m commits cs c i from sign w), λ x. watched m commits cs c i from sign (watch-set _ _ sign i x))
 
 pub watch-runs : WatchRuns
-watch-runs m on cs n u sign = (there m on cs sign n u, back m on cs sign n)
+watch-runs m commits cs c i from t one u sign =
+    (λ w. watch-running _ _ i t one sign u (stands-if m commits cs c i from sign w), λ r. watched m commits cs c i from sign (running-watch _ _ i t one sign r))
+
+-- ---- without the function
+
+module _ (m : MachineData) (commits : ℕ → List MachineData) (cs : ℕ → Given) where
+  abbrev Off5 : MachineData → State → Type 0
+  Off5 l s = Undirected l → s .kept .directions ≡ noDirections
+
+  all-off : (ms : List MachineData) (l : MachineData) (s : State) → Off5 l s → Off5 (lastOf l ms) (allCommitted ms s)
+  unfolding lastOf allCommitted
+  all-off [] l s h = h
+  all-off (k ∷ ms) l s h =
+      all-off ms k (committed k s) (λ e. commit-directions k s ∙ ap (λ (f : Bool). cond f (s .kept .directions) noDirections) e)
+
+  next-off : (l : MachineData) (s : State) (g : Given) → Off5 l s → Off5 l (next l s g)
+  next-off l s g h e =
+      let unmoved : moves l s g ≡ false = ap (λ (f : Bool). usableOf l (g .reading) && f) e ∙ and-false (usableOf l (g .reading)) in
+      next-directions l s g ∙ ap (λ (b : Bool). cond b (directionsNext (l .values) (g .reading) (s .kept .directions)) (s .kept .directions)) unmoved ∙ h e
+
+  off-at : (n : ℕ) → Off5 (listIn m commits n) (before m commits cs n)
+  unfolding listIn before
+  off-at zero = all-off (commits 0) m freshState (λ _. refl)
+  off-at (suc n) = all-off (commits (suc n)) (listIn m commits n) _ (next-off (listIn m commits n) (before m commits cs n) (cs n) (off-at n))
 
 pub none-stands : NoneStands
-unfolding history
-none-stands m off cs n =
-    let never : (i : ℕ) → watchingIn (λ i. m) cs i ≡ false = λ i. ap (λ (f : Bool). usableIn (λ i. m) cs i && f) off ∙ and-false (usableIn (λ i. m) cs i) in
-    let none : (sign : Sign) → ofSign sign (history m cs n .kept .directions) ≡ noDirection =
-    λ sign. D.none-stands (watchingIn (λ i. m) cs) (freeIn (λ i. m) cs sign) (positionIn (λ i. m) cs) (λ i. m .values) sign (λ i. ofSign sign (history m cs i .kept .directions))
-    (fresh (λ i. m) (history m cs) cs refl (λ i. refl) sign) (direction-at (λ i. m) (history m cs) cs refl (λ i. refl) sign) never n in
-    λ i. record { positive = none Positive i; negative = none Negative i }
+none-stands m commits cs n e =
+    (off-at m commits cs n e, next-off m commits cs (listIn m commits n) (before m commits cs n) (cs n) (off-at m commits cs n) e)
+
+-- ---- every cycle is counted from some such cycle
+
+-- one of the lists has not the function, or all have it
+ended-or-not : (ms : List MachineData) → ((m : MachineData) × List·Memᴰ m ms × Undirected m) ⊎ ((m : MachineData) → List·Memᴰ m ms → Directed m)
+ended-or-not [] = inr (λ m e. absurd (elim e [ ]))
+ended-or-not (l ∷ ls) = go (functionOf (l .values) 5) refl (ended-or-not ls)
+  where
+    each : Directed l → ((m : MachineData) → List·Memᴰ m ls → Directed m) → (m : MachineData) → (m ≡ l) ⊎ List·Memᴰ m ls →
+        Directed m
+    each f h m (inl q) = ap (λ (x : MachineData). functionOf (x .values) 5) q ∙ f
+    each f h m (inr e) = h m e
+
+    go : (f : Bool) → functionOf (l .values) 5 ≡ f →
+        ((m : MachineData) × List·Memᴰ m ls × Undirected m) ⊎ ((m : MachineData) → List·Memᴰ m ls → Directed m) →
+        ((m : MachineData) × List·Memᴰ m (l ∷ ls) × Undirected m) ⊎ ((m : MachineData) → List·Memᴰ m (l ∷ ls) → Directed m)
+    go false q rest = inl (l, List·Memᴰ·head refl, q)
+    go true q (inl x) = inl (x .0, List·Memᴰ·tail (x .1), x .2)
+    go true q (inr h) = inr (λ m e. each q h m (List·Memᴰ·cases-cons e))
+
+pub reached : Reached
+reached commits zero = (0, 0, refl, record { begins = at-first; goes-on = λ k a b. absurd (omega arith) })
+reached commits (suc n) = go (ended-or-not (commits (suc n))) (reached commits n)
+  where
+    go : ((m : MachineData) × List·Memᴰ m (commits (suc n)) × Undirected m) ⊎ ((m : MachineData) → List·Memᴰ m (commits (suc n)) → Directed m) →
+        (c : ℕ) × (i : ℕ) × (c + i ≡ n) × From commits c i → (c : ℕ) × (i : ℕ) × (c + i ≡ suc n) × From commits c i
+    go (inl x) r = (suc n, 0, omega arith, record { begins = ended (x .1) (x .2); goes-on = λ k a b. absurd (omega arith) })
+    go (inr h) (c, i, e, from) = (
+      c,
+      suc i,
+      omega (arith, e),
+      record {
+        begins = from .begins;
+        goes-on = λ k a b.
+            by-cases (decLe k (c + i)) (λ l. from .goes-on k a l)
+            (λ l. let q : suc n ≡ k = omega (arith, a, b, l, e) in subst (λ j. (m : MachineData) → List·Memᴰ m (commits j) → Directed m) q h);
+      },
+    )

@@ -1,6 +1,8 @@
--- A channel's image: the words that its state and the count of its list are kept in, beside its data (channel_image).
+-- A channel's image: the words that its state and the counts of its list and of the pending one are kept in, beside their data (channel_image).
 use Prim.Native.Nat.{ℕ, zero, suc, _%_, _<_}
+use mathlib.Core.Bool.{cond}
 use mathlib.Core.List.{List, [], _∷_, _++_}
+use lib.Dec.{eqb}
 use lib.ListN.{getD}
 use Rattle.directions.specs.declared.Directions.{Directions}
 use Rattle.state.specs.declared.State.{State}
@@ -10,6 +12,14 @@ use Rattle.image_cases.specs.Cases.{previousFrom, previousWords, PreviousFits, 
 -- how many data the list has: word 0; 0 where there is no list
 abbrev pub countFrom : List ℕ → ℕ
 countFrom w = getD w 0 0
+
+-- how many data the pending list has: word 25; 0 where none is pending
+abbrev pub pendingCount : List ℕ → ℕ
+pendingCount w = getD w 25 0
+
+-- W7: "Any cycle in between drops it": the same behind so many cycles
+abbrev pub pendingAfter : ℕ → ℕ → ℕ
+pendingAfter cycles count = cond (eqb cycles 0) count 0
 
 -- the directions that words stand for
 abbrev pub directionsFrom : List ℕ → Directions
@@ -95,9 +105,13 @@ directionWords x =
     ∷ watchWords (x .negative .watch) .first
     ∷ []
 
+-- that of the pending list: 25
+abbrev pub pendingWords : ℕ → List ℕ
+pendingWords pending = pending % 4_294_967_296 ∷ []
+
 -- all of them
-unfoldable pub stateWords : ℕ → State → List ℕ
-stateWords count s = frontWords count s ++ directionWords (s .kept .directions)
+unfoldable pub stateWords : ℕ → State → ℕ → List ℕ
+stateWords count s pending = frontWords count s ++ (directionWords (s .kept .directions) ++ pendingWords pending)
 
 -- n words as they stand, from a place on
 abbrev pub wordsFrom : List ℕ → ℕ → ℕ → List ℕ
@@ -109,6 +123,9 @@ frontIn w = wordsFrom w 0 19
 
 abbrev pub directionsIn : List ℕ → List ℕ
 directionsIn w = wordsFrom w 19 6
+
+abbrev pub pendingIn : List ℕ → List ℕ
+pendingIn w = wordsFrom w 25 1
 
 -- ---- of the laws: what they ask of a state
 

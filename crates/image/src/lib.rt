@@ -1,8 +1,8 @@
-// A channel's state as 25 words of 32 bits, what a program keeps of a channel that crosses into its memory: the places of the
+// A channel's state as 26 words of 32 bits, what a program keeps of a channel that crosses into its memory: the places of the
 // words, and the state that is read from them. Every content of the words stands for some state.
 ghost use mathlib.Core.Path.{_≡_};
 ghost use Prim.Native.Nat.{_<_};
-ghost use Rattle.image.specs.Image.{countFrom, stateFrom};
+ghost use Rattle.image.specs.Image.{countFrom, pendingCount, pendingAfter, stateFrom};
 use direction::Direction;
 use directions::Directions;
 use fault::Fault;
@@ -12,7 +12,7 @@ use state::Kept;
 use state::State;
 
 // How many words an image has.
-pub const WORDS: usize = 25;
+pub const WORDS: usize = 26;
 
 // The words of a channel's state, as they are lent.
 pub type Image = [u32; WORDS];
@@ -23,6 +23,18 @@ pub fn count_of(words: &Image) -> usize
     ensures { λ r. ⌜ r < 4294967296 ⌝ }
 {
     crossing::wide(words[0])
+}
+
+// How many data the pending list has behind so many cycles, 0 where none is: each drops it.
+pub fn pending_after(cycles: usize, words: &Image) -> usize
+    ensures { λ r. ⌜ r ≡ pendingAfter cycles (pendingCount (now (words .entry))) ⌝ }
+    ensures { λ r. ⌜ r < 4294967296 ⌝ }
+{
+    if cycles == 0 {
+        crossing::wide(words[25])
+    } else {
+        0
+    }
 }
 
 // The state that the words stand for.

@@ -7,8 +7,8 @@ use Rattle.state.specs.declared.State.{State}
 use Rattle.crossing.proofs.Back.{signed-back, yes-back}
 use Rattle.image_cases.proofs.Back.{byte-back, previous-back, watch-back, selection-back, stop-back}
 use Rattle.directions.specs.declared.Directions.{Directions}
-use Rattle.image.specs.Image.{countFrom, directionsFrom, stateFrom, frontWords, directionWords, stateWords, frontIn, directionsIn, Fits, DirectionsFit}
-use Rattle.image_writing.specs.Written.{writtenAs, writing, withDirections, writingFront, DirectionsWritten, directionsAs, writingDirections}
+use Rattle.image.specs.Image.{countFrom, pendingCount, directionsFrom, stateFrom, frontWords, directionWords, pendingWords, stateWords, frontIn, directionsIn, pendingIn, Fits, DirectionsFit}
+use Rattle.image_writing.specs.Written.{Written, writtenAs, writing, withDirections, writingFront, writingPending, DirectionsWritten, directionsAs, writingDirections}
 
 -- what the words of the front are read as, over any others, and those of the directions, behind any front
 module _ (count : ℕ) (s : State) (h : Fits s) where
@@ -36,42 +36,64 @@ module _ (count : ℕ) (s : State) (h : Fits s) where
         previous = previous-back (s .previous) (h .previous) i;
       }
 
-pub directions-back : (x : Directions) → DirectionsFit x → (count : ℕ) (s : State) → directionsFrom (frontWords count s ++ directionWords x) ≡ x
-directions-back x h count s = λ i.
+pub directions-back : (x : Directions) → DirectionsFit x → (count : ℕ) (s : State) (rest : List ℕ) → directionsFrom (frontWords count s ++ (directionWords x ++ rest)) ≡ x
+directions-back x h count s rest = λ i.
     record {
       positive = record { run = x .positive .run; watch = watch-back (x .positive .watch) (h .positive) i };
       negative = record { run = x .negative .run; watch = watch-back (x .negative .watch) (h .negative) i };
     }
 
 -- a channel that goes out and comes back is the same channel: its state, and the count of its list
-pub comes-back : (count : ℕ) (s : State) → Fits s → DirectionsFit (s .kept .directions) → stateFrom (stateWords count s) ≡ s
+pub comes-back : (count : ℕ) (s : State) (pending : ℕ) → Fits s → DirectionsFit (s .kept .directions) → stateFrom (stateWords count s pending) ≡ s
 unfolding stateWords
-comes-back count s h x = front-back count s h (s .kept .directions) (directionWords (s .kept .directions)) (directions-back (s .kept .directions) x count s)
+comes-back count s pending h x =
+    front-back count s h (s .kept .directions) (directionWords (s .kept .directions) ++ pendingWords pending)
+    (directions-back (s .kept .directions) x count s (pendingWords pending))
 
-count-kept : (count : ℕ) (s : State) → countFrom (stateWords count s) ≡ count % 4_294_967_296
+counts-kept : (count : ℕ) (s : State) (pending : ℕ) →
+    (countFrom (stateWords count s pending) ≡ count % 4_294_967_296) × (pendingCount (stateWords count s pending) ≡ pending % 4_294_967_296)
 unfolding stateWords
-count-kept count s = refl
+counts-kept count s pending = (refl, refl)
 
-pub count-comes-back : (count : ℕ) (s : State) → count < 4_294_967_296 → countFrom (stateWords count s) ≡ count
-count-comes-back count s h = omega (arith, count-kept count s)
+pub counts-come-back : (count : ℕ) (s : State) (pending : ℕ) → count < 4_294_967_296 → pending < 4_294_967_296 →
+    (countFrom (stateWords count s pending) ≡ count) × (pendingCount (stateWords count s pending) ≡ pending)
+counts-come-back count s pending h k = let e = counts-kept count s pending in (omega (arith, e .0), omega (arith, e .1))
 
 -- ---- the words as the machine puts them together, where each part is its definition's
 
-pub written-front : (count : ℕ) (s : State) → Fits s → (w : List ℕ) {v : List ℕ} → v ≡ frontWords count s ++ directionsIn w → writtenAs v ≡ writingFront count s w
+pub written-front : (count : ℕ) (s : State) → Fits s → (w : List ℕ) {v : List ℕ} → v ≡ frontWords count s ++ (directionsIn w ++ pendingWords 0) → writtenAs v ≡ writingFront count s w
 written-front count s h w e =
-    let state = ap stateFrom e ∙ front-back count s h (directionsFrom w) (directionsIn w) refl in
+    let state = ap stateFrom e ∙ front-back count s h (directionsFrom w) (directionsIn w ++ pendingWords 0) refl in
     let back = ap countFrom e in
-    λ i. record { words = e i; state = state i; count = back i }
+    let none = ap pendingCount e in
+    λ i. record { words = e i; state = state i; count = back i; pending = none i }
 
-pub written-directions : (x : Directions) → DirectionsFit x → (w : List ℕ) {v : List ℕ} → v ≡ frontIn w ++ directionWords x → directionsAs v ≡ writingDirections x w
+-- the pending list's count over any words: what else they stand for stays
+same-state : (pending : ℕ) (w : List ℕ) → stateFrom (frontIn w ++ (directionsIn w ++ pendingWords pending)) ≡ stateFrom w
+unfolding stateFrom
+same-state pending w = refl
+
+pub written-pending : (pending : ℕ) (w : List ℕ) {v : List ℕ} → v ≡ frontIn w ++ (directionsIn w ++ pendingWords pending) → writtenAs v ≡ writingPending pending w
+written-pending pending w e =
+    let state = ap stateFrom e ∙ same-state pending w in
+    let back = ap countFrom e in
+    let kept = ap pendingCount e in
+    λ i. record { words = e i; state = state i; count = back i; pending = kept i }
+
+pub written-directions : (x : Directions) → DirectionsFit x → (w : List ℕ) {v : List ℕ} → v ≡ frontIn w ++ (directionWords x ++ pendingIn w) → directionsAs v ≡ writingDirections x w
 written-directions x h w e =
     let back = ap directionsFrom e ∙ (λ i. record { positive = record { run = x .positive .run; watch = watch-back (x .positive .watch) (h .positive) i }; negative = record { run = x .negative .run; watch = watch-back (x .negative .watch) (h .negative) i } }) in
     λ i. record { words = e i; directions = back i }
 
--- both, one behind the other: words v with the directions of s, and the front over them
-pub written-both : (count : ℕ) (s : State) (w : List ℕ) {v u : List ℕ} → directionsAs v ≡ writingDirections (s .kept .directions) w → writtenAs u ≡ writingFront count s v → writtenAs u ≡ writing count s
+-- all, one behind the other: words v with the directions of s, the front over them, and the pending list's count
+pub written-all : (count : ℕ) (s : State) (pending : ℕ) (w : List ℕ) {v u t : List ℕ} → directionsAs v ≡ writingDirections (s .kept .directions) w →
+    writtenAs u ≡ writingFront count s v → writtenAs t ≡ writingPending pending u → writtenAs t ≡ writing count s pending
 unfolding stateWords
-written-both count s w {v} put over =
+written-all count s pending w {v} {u} put over last =
     let tail = ap (λ (x : DirectionsWritten). directionsIn (x .words)) put in
     let back = ap (λ (x : DirectionsWritten). x .directions) put in
-    over ∙ (λ i. record { words = frontWords count s ++ tail i; state = withDirections s (back i); count = count % 4_294_967_296 })
+    let front = ap (λ (x : Written). frontIn (x .words)) over in
+    let kept = ap (λ (x : Written). directionsIn (x .words)) over in
+    let state = ap (λ (x : Written). x .state) over ∙ ap (withDirections s) back in
+    let same = ap (λ (x : Written). x .count) over in
+    last ∙ (λ i. record { words = front i ++ ((kept ∙ tail) i ++ pendingWords pending); state = state i; count = same i; pending = pending % 4_294_967_296 })

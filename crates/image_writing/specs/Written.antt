@@ -1,23 +1,25 @@
--- What writing a state gives, as one value: the words, and what is read from them again, the same state and the same count where it is below 2^32. The words
--- of the directions are written apart: most cycles leave them as they are.
+-- What writing a state gives, as one value: the words, and what is read from them again, the same state and the same counts where they are below 2^32. The
+-- words of the directions are written apart: most cycles leave them as they are.
 use Prim.Native.Nat.{ℕ, _%_}
 use mathlib.Core.List.{List, _++_}
 use Rattle.directions.specs.declared.Directions.{Directions}
 use Rattle.state.specs.declared.State.{State}
-use Rattle.image.specs.Image.{countFrom, directionsFrom, stateFrom, frontWords, directionWords, stateWords, frontIn, directionsIn}
+use Rattle.image.specs.Image.{countFrom, pendingCount, directionsFrom, stateFrom, frontWords, directionWords, pendingWords, stateWords, frontIn, directionsIn, pendingIn}
 
 pub record Written : Type 0 where
   pub words : List ℕ
   pub state : State
   pub count : ℕ
+  pub pending : ℕ
 
 -- words as they stand, and what they stand for
 abbrev pub writtenAs : List ℕ → Written
-writtenAs w = record { words = w; state = stateFrom w; count = countFrom w }
+writtenAs w = record { words = w; state = stateFrom w; count = countFrom w; pending = pendingCount w }
 
--- what a count and a state are written as
-abbrev pub writing : ℕ → State → Written
-writing count s = record { words = stateWords count s; state = s; count = count % 4_294_967_296 }
+-- what a count, a state and the pending list's count are written as
+abbrev pub writing : ℕ → State → ℕ → Written
+writing count s pending =
+    record { words = stateWords count s pending; state = s; count = count % 4_294_967_296; pending = pending % 4_294_967_296 }
 
 -- a state with other directions
 abbrev pub withDirections : State → Directions → State
@@ -37,10 +39,25 @@ withDirections s x =
       previous = s .previous;
     }
 
--- what they are written as over words that keep those of the directions
+-- what a cycle writes over words that keep those of the directions: none is pending
 abbrev pub writingFront : ℕ → State → List ℕ → Written
 writingFront count s w =
-    record { words = frontWords count s ++ directionsIn w; state = withDirections s (directionsFrom w); count = count % 4_294_967_296 }
+    record {
+      words = frontWords count s ++ (directionsIn w ++ pendingWords 0);
+      state = withDirections s (directionsFrom w);
+      count = count % 4_294_967_296;
+      pending = 0;
+    }
+
+-- the pending list's count written over words that keep all others
+abbrev pub writingPending : ℕ → List ℕ → Written
+writingPending pending w =
+    record {
+      words = frontIn w ++ (directionsIn w ++ pendingWords pending);
+      state = stateFrom w;
+      count = countFrom w;
+      pending = pending % 4_294_967_296;
+    }
 
 -- ---- the directions alone
 
@@ -53,4 +70,4 @@ directionsAs w = record { words = w; directions = directionsFrom w }
 
 -- what they are written as over words that keep all others
 abbrev pub writingDirections : Directions → List ℕ → DirectionsWritten
-writingDirections x w = record { words = frontIn w ++ directionWords x; directions = x }
+writingDirections x w = record { words = frontIn w ++ (directionWords x ++ pendingIn w); directions = x }

@@ -1,13 +1,13 @@
 // A channel's state written into its words: what is read from them again is the same state.
 ghost use mathlib.Core.Path.{_≡_};
-ghost use Rattle.image_writing.specs.Written.{writtenAs, writing, writingFront, directionsAs, writingDirections};
+ghost use Rattle.image_writing.specs.Written.{writtenAs, writing, writingFront, directionsAs, writingDirections, writingPending};
 use directions::Directions;
 use image::Image;
 use image::WORDS;
 use state::State;
 
-// The words of a count and a state but for its directions, whose words stay; a count of 2^32 or more, which no list has, is kept
-// modulo 2^32.
+// The words of a count and a state behind a cycle, which drops what is pending; those of the directions stay. A count of 2^32 or
+// more, which no list has, is kept modulo 2^32.
 pub fn put_front(count: usize, state: State, words: &mut Image)
     ensures { λ _. ⌜ writtenAs (now (words .exit)) ≡ writingFront count state (now (words .entry)) ⌝ }
 {
@@ -47,6 +47,7 @@ pub fn put_front(count: usize, state: State, words: &mut Image)
         words[22],
         words[23],
         words[24],
+        0,
     ];
 }
 
@@ -86,17 +87,53 @@ pub fn put_directions(directions: Directions, words: &mut Image)
         negative.run,
         only_negative.kind,
         only_negative.first,
+        words[25],
     ];
 }
 
-// All words of a count and a state.
-pub fn words_of(count: usize, state: State) -> Image
-    ensures { λ r. ⌜ writtenAs r ≡ writing count state ⌝ }
+// The word of the pending list, by how many data it has; the others stay.
+pub fn put_pending(pending: usize, words: &mut Image)
+    ensures { λ _. ⌜ writtenAs (now (words .exit)) ≡ writingPending pending (now (words .entry)) ⌝ }
+{
+    *words = [
+        words[0],
+        words[1],
+        words[2],
+        words[3],
+        words[4],
+        words[5],
+        words[6],
+        words[7],
+        words[8],
+        words[9],
+        words[10],
+        words[11],
+        words[12],
+        words[13],
+        words[14],
+        words[15],
+        words[16],
+        words[17],
+        words[18],
+        words[19],
+        words[20],
+        words[21],
+        words[22],
+        words[23],
+        words[24],
+        (pending % 4294967296) as u32,
+    ];
+}
+
+// All words of a count, a state and the pending list's count.
+pub fn words_of(count: usize, state: State, pending: usize) -> Image
+    ensures { λ r. ⌜ writtenAs r ≡ writing count state pending ⌝ }
 {
     let mut words = [0u32; WORDS];
     let kept = state.kept;
     let directions = kept.directions;
     put_directions(directions, &mut words);
     put_front(count, state, &mut words);
+    put_pending(pending, &mut words);
     words
 }

@@ -16,12 +16,12 @@ use Rattle.records.specs.declared.Scan as S
 use Rattle.records.specs.Records.{entryAt, LogRead, records, fault, before, onEntry, logFrom, logOf, counted, scanOf}
 use Rattle.channel.specs.declared.Channel.{Channel}
 use Rattle.state.specs.declared.State.{State}
-use Rattle.channel.specs.Cycle.{withState}
+use Rattle.channel.specs.Cycle.{afterCycles}
 use Rattle.log.specs.declared.LogStates.{LogStates}
 use Rattle.log.specs.declared.LogAnswer.the-variants.{Accepted}
 use Rattle.log.specs.Run.{Both, bothOf, refusing, running, byRecords, ranOf}
 use Rattle.log.specs.Alone.{wordsAlone, thirds, withDevices}
-use Rattle.log.specs.Left.{leftBeside, refusedStates, Sound, RunsAlone}
+use Rattle.log.specs.Left.{leftOf, refusedStates, Sound, RunsAlone}
 use Rattle.log.proofs.Thirds.{together}
 use Rattle.log.proofs.Apart.{as-many, lines-apart, last-apart}
 
@@ -70,10 +70,10 @@ few-cycles words n e = let s = scanned words n e in omega (arith, s .2, few (len
 -- ---- the answers
 
 module _ (a b : Channel) (words out : List ℕ) where
-  refuses : (why : Refusal) {r : LogStates} → r ≡ refusedStates why (a .state) (b .state) → ranOf a b words out ≡ refusing a b out why → leftBeside a b r out ≡ ranOf a b words out
-  refuses why q e = ap (λ (x : LogStates). leftBeside a b x out) q ∙ sym e
+  refuses : (why : Refusal) {r : LogStates} → r ≡ refusedStates why (a .state) (b .state) → ranOf a b words out ≡ refusing a b out why → leftOf a b r out ≡ ranOf a b words out
+  refuses why q e = ap (λ (x : LogStates). leftOf a b x out) q ∙ sym e
 
-  pub too-long : {r : LogStates} → r ≡ refusedStates (WrongLog 16384) (a .state) (b .state) → 16384 < length words → leftBeside a b r out ≡ ranOf a b words out
+  pub too-long : {r : LogStates} → r ≡ refusedStates (WrongLog 16384) (a .state) (b .state) → 16384 < length words → leftOf a b r out ≡ ranOf a b words out
   unfolding ranOf
   too-long q h = refuses (WrongLog 16384) q (simp (lt-ltb 16384 (length words) h))
 
@@ -82,10 +82,10 @@ module _ (a b : Channel) (words out : List ℕ) where
     unfolding ranOf
     by-log e = simp (le-ltb 16384 (length words) short) (ap (byRecords a b out) e)
 
-    pub bad-word : {r : LogStates} {place : ℕ} → r ≡ refusedStates (WrongLog place) (a .state) (b .state) → scanOf words ≡ S.the-variants.Bad place → leftBeside a b r out ≡ ranOf a b words out
+    pub bad-word : {r : LogStates} {place : ℕ} → r ≡ refusedStates (WrongLog place) (a .state) (b .state) → scanOf words ≡ S.the-variants.Bad place → leftOf a b r out ≡ ranOf a b words out
     bad-word {place = place} q e = refuses (WrongLog place) q (by-log (faulty words place e))
 
-    pub no-room : {r : LogStates} {n : ℕ} → r ≡ refusedStates (ShortOutput (3 * n)) (a .state) (b .state) → scanOf words ≡ S.the-variants.Cycles n → length out < 3 * n → leftBeside a b r out ≡ ranOf a b words out
+    pub no-room : {r : LogStates} {n : ℕ} → r ≡ refusedStates (ShortOutput (3 * n)) (a .state) (b .state) → scanOf words ≡ S.the-variants.Cycles n → length out < 3 * n → leftOf a b r out ≡ ranOf a b words out
     no-room {n = n} q e h =
         let s = scanned words n e in
         let less : length out < 3 * length (s .0) = omega (arith, s .2) in
@@ -99,7 +99,7 @@ module _ (a b : Channel) (words out : List ℕ) where
   -- both channels run one after the other, then their device words, as the machine gives them back
   module _ (la lb : State) (outa outb out′ : List ℕ) where
     pub ran : {n : ℕ} → Sound words out n → RunsAlone a (b .list) (b .state .k) false words out la outa → RunsAlone b (a .list) (a .state .k) true words outa lb outb →
-        out′ ≡ withDevices 0 n outb → leftBeside a b (record { answer = Accepted n; a = la; b = lb }) out′ ≡ ranOf a b words out
+        out′ ≡ withDevices 0 n outb → leftOf a b (record { answer = Accepted n; a = la; b = lb }) out′ ≡ ranOf a b words out
     ran {n} s runs-a runs-b devices =
         let da = a .list in
         let db = b .list in
@@ -112,12 +112,12 @@ module _ (a b : Channel) (words out : List ℕ) where
         let last = last-apart da db (bothOf a b) (s .rs) in
         let is : ranOf a b words out ≡ running a b out (s .rs) = by-log (s .short) (s .log) ∙ simp (le-ltb (length out) (3 * length (s .rs)) (s .room)) in
         let cycles = ap Accepted (s .counted) in
-        let sa = ap (withState a) (ra .0 ∙ sym (ap (λ (x : Both). x .a) last)) in
-        let sb = ap (withState b) (rb .0 ∙ sym (ap (λ (x : Both). x .b) last)) in
+        let sa = ra .0 ∙ sym (ap (λ (x : Both). x .a) last) in
+        let sb = rb .0 ∙ sym (ap (λ (x : Both). x .b) last) in
         let put =
         devices
         ∙ ap (withDevices 0 n) (rb .1 ∙ ap (thirds 1 wb) (ra .1))
         ∙ ap (λ (i : ℕ). withDevices 0 i (thirds 1 wb (thirds 0 wa out))) (s .counted ∙ sym many-a)
         ∙ together wa wb out (many-b ∙ sym many-a) (omega (arith, many-a, s .room))
         ∙ (λ i. sym (lines-apart da db (bothOf a b) (s .rs)) i ++ drop (3 * many-a i) out) in
-        (λ i. record { answer = cycles i; a = sa i; b = sb i; out = put i }) ∙ sym is
+        (λ i. record { answer = cycles i; a = afterCycles (s .counted i) a (sa i); b = afterCycles (s .counted i) b (sb i); out = put i }) ∙ sym is

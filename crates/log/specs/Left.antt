@@ -8,15 +8,16 @@ use lib.IntN.{ℤ}
 use Rattle.machine_data.specs.declared.MachineData.{MachineData}
 use Rattle.machine_data.specs.Data.{lent}
 use Rattle.channel.specs.declared.Channel.{Channel}
-use Rattle.channel.specs.Cycle.{withState}
+use Rattle.channel.specs.Cycle.{withList, afterCycles}
 use Rattle.state.specs.declared.State.{State}
 use Rattle.seven.specs.declared.CycleRecord.{CycleRecord}
 use Rattle.records.specs.Records.{records, logOf}
 use Rattle.refusal.specs.declared.Refusal.{Refusal}
 use Rattle.log.specs.declared.LogRun.{LogRun}
 use Rattle.log.specs.declared.LogStates.{LogStates}
-use Rattle.log.specs.declared.LogAnswer.the-variants.{Refused}
-use Rattle.log.specs.Run.{Ran}
+use Rattle.log.specs.declared.LogAnswer.{LogAnswer}
+use Rattle.log.specs.declared.LogAnswer.the-variants.{Accepted, Refused}
+use Rattle.log.specs.Run.{Ran, ranOf}
 use Rattle.log.specs.Alone.{lastAlone, wordsAlone, thirds}
 
 -- what a run leaves, as one value
@@ -25,11 +26,29 @@ leftBy r out′ = record { answer = r .answer; a = r .a; b = r .b; out = out′ 
 
 -- a state beside its data is a channel
 abbrev pub beside : List ℤ → ℕ → State → Channel
-beside values count s = record { list = lent values count; state = s }
+beside values count s = withList (lent values count) s
 
--- the same of two states: the channels keep their data
-abbrev pub leftBeside : Channel → Channel → LogStates → List ℕ → Ran
-leftBeside a b r out′ = record { answer = r .answer; a = withState a (r .a); b = withState b (r .b); out = out′ }
+-- a channel with this list pending
+abbrev pub keeping : MachineData → Channel → Channel
+keeping p c = record { list = c .list; state = c .state; pending = p }
+
+-- how many cycles were run
+abbrev pub cyclesRun : LogAnswer → ℕ
+cyclesRun (Accepted n) = n
+cyclesRun (Refused why) = 0
+
+-- what a run leaves of two states: the channels keep their data, and what is pending where no cycle was run
+abbrev pub leftOf : Channel → Channel → LogStates → List ℕ → Ran
+leftOf a b r out′ =
+    let n = cyclesRun (r .answer) in
+    record { answer = r .answer; a = afterCycles n a (r .a); b = afterCycles n b (r .b); out = out′ }
+
+-- of two states beside their data, whatever is pending in their channels, p in A's and q in B's: what a run leaves, and the log over these channels
+abbrev pub leftBeside : Channel → Channel → LogStates → List ℕ → MachineData → MachineData → Ran
+leftBeside a b r out′ p q = leftOf (keeping p a) (keeping q b) r out′
+
+abbrev pub ranBeside : Channel → Channel → List ℕ → List ℕ → MachineData → MachineData → Ran
+ranBeside a b words out p q = ranOf (keeping p a) (keeping q b) words out
 
 -- ---- of the private functions
 

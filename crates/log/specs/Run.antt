@@ -12,7 +12,7 @@ use Rattle.state.specs.declared.State.{State}
 use Rattle.state.specs.declared.Given.{Given}
 use Rattle.channel.specs.declared.Channel.{Channel}
 use Rattle.report.specs.Report.{reportOf}
-use Rattle.channel.specs.Cycle.{withState, next}
+use Rattle.channel.specs.Cycle.{afterCycles, next}
 use Rattle.channel.specs.Word.{word}
 use Rattle.device.specs.Device.{deviceOf}
 use Rattle.refusal.specs.declared.Refusal.{Refusal}
@@ -80,14 +80,15 @@ pub record Ran : Type 0 where
 abbrev pub refusing : Channel → Channel → List ℕ → Refusal → Ran
 refusing a b out why = record { answer = Refused why; a = a; b = b; out = out }
 
--- "from its front on; the output words behind them are not touched. The number of cycles and both channels come back"
+-- "from its front on; the output words behind them are not touched. The number of cycles and both channels come back"; W7: what is pending is dropped where
+-- there is a cycle
 abbrev pub running : Channel → Channel → List ℕ → List CycleRecord → Ran
 running a b out rs =
     let last = lastOf (a .list) (b .list) (bothOf a b) rs in
     record {
       answer = Accepted (length rs);
-      a = withState a (last .a);
-      b = withState b (last .b);
+      a = afterCycles (length rs) a (last .a);
+      b = afterCycles (length rs) b (last .b);
       out = linesOf (a .list) (b .list) (bothOf a b) rs ++ drop (3 * length rs) out;
     }
 

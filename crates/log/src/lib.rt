@@ -7,7 +7,7 @@ ghost use Rattle.machine_data.specs.Data.{lent};
 ghost use Rattle.seven.specs.Seven.{sixFrom, recordOf};
 ghost use Rattle.log.specs.Alone.{readingIn, givenIn, withDevices};
 ghost use Rattle.log.specs.Run.{ranOf};
-ghost use Rattle.log.specs.Left.{leftBy, beside, leftBeside, refusedStates, Enough, Sound, RunsAlone};
+ghost use Rattle.log.specs.Left.{leftBy, beside, cyclesRun, leftBeside, ranBeside, refusedStates, Enough, Sound, RunsAlone};
 use channel::Channel;
 use inputs::Reading;
 use machine_data::Values;
@@ -24,6 +24,18 @@ pub enum LogAnswer {
     // how many cycles were run
     Accepted(usize),
     Refused(Refusal),
+}
+
+impl LogAnswer {
+    // How many cycles were run.
+    fn cycles(self) -> usize
+        ensures { λ r. ⌜ r ≡ cyclesRun self ⌝ }
+    {
+        match self {
+            LogAnswer::Accepted(cycles) => cycles,
+            LogAnswer::Refused(_) => 0,
+        }
+    }
 }
 
 // Both channels come back, as they were where the log is refused.
@@ -166,7 +178,7 @@ fn accepted(
     cycles: usize,
 ) -> LogStates
     requires { ⌜ Sound (now words) (now out) cycles ⌝ }
-    ensures { λ r. ⌜ leftBeside (beside (now (da .entry)) na a) (beside (now (db .entry)) nb b) r (now (out .exit)) ≡ ranOf (beside (now (da .entry)) na a) (beside (now (db .entry)) nb b) (now (words .entry)) (now (out .entry)) ⌝ }
+    ensures { λ r. ⌜ leftBeside (beside (now (da .entry)) na a) (beside (now (db .entry)) nb b) r (now (out .exit)) ≡ ranBeside (beside (now (da .entry)) na a) (beside (now (db .entry)) nb b) (now (words .entry)) (now (out .entry)) ⌝ }
 {
     let la = run_channel(da, na, a, db, nb, b.k, false, words, out);
     let lb = run_channel(db, nb, b, da, na, a.k, true, words, out);
@@ -189,7 +201,7 @@ pub fn run_on(
     words: &[u32],
     out: &mut [u32],
 ) -> LogStates
-    ensures { λ r. ⌜ leftBeside (beside (now (da .entry)) na a) (beside (now (db .entry)) nb b) r (now (out .exit)) ≡ ranOf (beside (now (da .entry)) na a) (beside (now (db .entry)) nb b) (now (words .entry)) (now (out .entry)) ⌝ }
+    ensures { λ r. ⌜ leftBeside (beside (now (da .entry)) na a) (beside (now (db .entry)) nb b) r (now (out .exit)) ≡ ranBeside (beside (now (da .entry)) na a) (beside (now (db .entry)) nb b) (now (words .entry)) (now (out .entry)) ⌝ }
 {
     if 16384 < words.len() {
         return refused(Refusal::WrongLog(16384), a, b);
@@ -225,11 +237,12 @@ pub fn run_log(a: Channel, b: Channel, words: &[u32], out: &mut [u32]) -> LogRun
         out,
     );
     let answer = ran.answer;
+    let cycles = answer.cycles();
     let la = ran.a;
     let lb = ran.b;
     LogRun {
         answer,
-        a: channel::with_state(a, la),
-        b: channel::with_state(b, lb),
+        a: channel::after_cycles(a, la, cycles),
+        b: channel::after_cycles(b, lb, cycles),
     }
 }

@@ -1,6 +1,7 @@
 -- Bit 21 is 1 where W3 says so, and only there: by the law of the signal over numbered cycles. Assumes nothing.
 use Prim.Native.Nat.{ℕ, zero, suc, _≤_}
 use mathlib.Core.Bool.{Bool, true, false, cond, _&&_}
+use mathlib.Core.List.{List}
 use mathlib.Core.Logic.{_↔_}
 use mathlib.Core.Path.{_≡_, refl, sym, ap, _∙_, subst}
 use native.Mathlib.Omega.{arith}
@@ -25,11 +26,14 @@ use Rattle.state.specs.declared.State.{State}
 use Rattle.state.specs.declared.Given.{Given}
 use Rattle.judge.specs.Causes.{stepOf}
 use Rattle.list.specs.Reading.{readList}
+use Rattle.state.specs.State.{freshState}
+use Rattle.commit_laws.proofs.NeverLowers.{never-lowers}
 use Rattle.channel.specs.Cycle.{next}
 use Rattle.channel.specs.Word.{word}
-use Rattle.demand_3.specs.History.{allCycles, cycleAt, history}
+use Rattle.demand_3.specs.History.{allCycles, allCommits, cycleAt, allCommitted, listIn, before}
 use Rattle.demand_3.specs.Claims.{usableIn}
 use Rattle.demand_3.proofs.OfWord.{shows-nx}
+use Rattle.demand_3.proofs.Commits.{all-keep}
 use Rattle.demand_3.proofs.Traces.{trace-at}
 use Rattle.demand_3.proofs.Calls.{calls-lead}
 use Rattle.nx_history.specs.Shown.{previousAt, stepAt, belowAt, overAt, filterAt, ShownAt, ShownNx}
@@ -122,13 +126,30 @@ module _ (L : ℕ → MachineData) (S : ℕ → State) (G : ℕ → Given) (none
           (λ i. apart (L i .values) (stepAt L G i)) (suc n) (x .one) in
           subst T (sym (bit-21 n)) (and-i (functionOf (L n .values) 3) (used n && on (suc n)) (x .enabled) (and-i (used n) (on (suc n)) (x .used) o))
 
--- ---- one list and its own history, and the words that the calls give
+-- ---- the history of a first list and of those that are committed, and the words that the calls give
+
+module _ (m : MachineData) (commits : ℕ → List MachineData) (cs : ℕ → Given) where
+  abbrev L : ℕ → MachineData
+  L = listIn m commits
+
+  abbrev S : ℕ → State
+  S = before m commits cs
+
+  previous-kept : (ms : List MachineData) (s : State) → allCommitted ms s .previous ≡ s .previous
+  previous-kept = all-keep (λ (s : State). s .previous) (λ l s. never-lowers l s .previous)
+
+  signal-kept : (ms : List MachineData) (s : State) → allCommitted ms s .kept .nx ≡ s .kept .nx
+  signal-kept = all-keep (λ (s : State). s .kept .nx) (λ l s. never-lowers l s .nx)
+
+  pub shown-in : (n : ℕ) → T (bitOf (word (L n) (S n) (cs n)) 21) ↔ ShownAt L cs n
+  unfolding before
+  shown-in =
+      shown-at L S cs (previous-kept (commits 0) freshState) (signal-kept (commits 0) freshState)
+      (λ n. previous-kept (commits (suc n)) (next (L n) (S n) (cs n))) (λ n. signal-kept (commits (suc n)) (next (L n) (S n) (cs n)))
 
 pub shown-nx : ShownNx
-unfolding history
 shown-nx s size e calls given a n l =
     let m = readList s .list in
     let cs = cycleAt (allCycles calls) in
-    let gave = trace-at (calls-lead a .1) _ n l in
-    subst (λ (w : ℕ). T (bitOf w 21) ↔ ShownAt (λ i. m) cs n) (sym (gave .word-is))
-    (shown-at (λ i. m) (history m cs) cs refl refl (λ i. refl) (λ i. refl) n)
+    let gave = trace-at (calls-lead a .trace) _ n l in
+    subst (λ (w : ℕ). T (bitOf w 21) ↔ ShownAt (listIn m (allCommits calls)) cs n) (sym (gave .word-is)) (shown-in m (allCommits calls) cs n)

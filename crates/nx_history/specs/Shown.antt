@@ -1,4 +1,5 @@
--- When bit 21 of the channel word, n<nx, is 1: W3, over every list of calls of demand 3, and with no state kept. proofs/Shown.antt shows it.
+-- When bit 21 of the channel word, n<nx, is 1: W3, over every list of calls of demand 3, W7's asks and commits among them, and with no state kept.
+-- proofs/Shown.antt shows it.
 use Prim.Native.Nat.{ℕ, zero, suc, _<_}
 use mathlib.Core.Bool.{Bool, cond}
 use mathlib.Core.List.{List}
@@ -21,7 +22,7 @@ use Rattle.list.specs.declared.ListAnswer.the-variants.{Accepted}
 use Rattle.list.specs.Reading.{readList}
 use Rattle.channel.specs.Cycle.{freshChannel}
 use Rattle.demand_3.specs.Calls.{Call, Words, Answers}
-use Rattle.demand_3.specs.History.{allCycles, cycleAt}
+use Rattle.demand_3.specs.History.{allCycles, allCommits, cycleAt, listIn}
 use Rattle.demand_3.specs.Claims.{usableIn}
 use Rattle.demand_3.specs.Demand3.{wordsIn}
 
@@ -51,9 +52,14 @@ module _ (L : ℕ → MachineData) (G : ℕ → Given) where
     pub enabled : T (functionOf (L n .values) 3)
     pub one : SetSince (usableIn L G) belowAt overAt filterAt n
 
--- in each cycle of a list of calls, by the words that they give
+-- in each cycle of calls on a fresh channel with list m, by the words that they give and the lists in force: a commit leaves the signal, its run and the
+-- previous position
+abbrev pub ShownIn : MachineData → List Call → List Words → Type 0
+ShownIn m calls given =
+    (n : ℕ) → n < length (allCycles calls) →
+    T (bitOf (wordsIn given n .channel) 21) ↔ ShownAt (listIn m (allCommits calls)) (cycleAt (allCycles calls)) n
+
 abbrev pub ShownNx : Type 0
 ShownNx =
     (s : List ℕ) (size : ℕ) → readList s .answer ≡ Accepted size →
-    (calls : List Call) (given : List Words) → Answers (freshChannel (readList s .list)) calls given → (n : ℕ) → n < length (allCycles calls) →
-    T (bitOf (wordsIn given n .channel) 21) ↔ ShownAt (λ i. readList s .list) (cycleAt (allCycles calls)) n
+    (calls : List Call) (given : List Words) → Answers (freshChannel (readList s .list)) calls given → ShownIn (readList s .list) calls given

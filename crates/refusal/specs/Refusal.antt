@@ -1,7 +1,7 @@
--- A refusal's number, and what is returned beside it: document 01's refusal table, a row a case.
+-- A refusal's number, and what is returned beside it: document 01's refusal table and W7, a row a case.
 use Prim.Native.Nat.{ℕ}
 use Rattle.refusal.specs.declared.Refusal.{Refusal}
-use Rattle.refusal.specs.declared.Refusal.the-variants.{WrongWord, OpenDatum, NoWholeNumber, OutOfRange, SeEnds, WrongLog, ShortOutput}
+use Rattle.refusal.specs.declared.Refusal.the-variants.{WrongWord, OpenDatum, NoWholeNumber, OutOfRange, SeEnds, WrongLog, ShortOutput, NothingPending}
 
 abbrev pub refusalNumber : Refusal → ℕ
 -- "list word missing, of wrong kind, number or bits"
@@ -18,6 +18,8 @@ refusalNumber (SeEnds place) = 5
 refusalNumber (WrongLog place) = 6
 -- "output below 3 words a cycle"
 refusalNumber (ShortOutput wanted) = 7
+-- W7: "8, place 0: commit with nothing pending"
+refusalNumber NothingPending = 8
 
 abbrev pub refusalPlace : Refusal → ℕ
 -- "place"
@@ -32,3 +34,4 @@ refusalPlace (SeEnds place) = place
 refusalPlace (WrongLog place) = place
 -- "words wanted"
 refusalPlace (ShortOutput wanted) = wanted
+refusalPlace NothingPending = 0

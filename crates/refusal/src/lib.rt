@@ -1,4 +1,4 @@
-// Why a list or a log is refused: the rows of document 01's refusal table, each with what it returns beside its number.
+// Why a list, a log or a commit is refused: the rows of document 01's refusal table and of W7, each with what it returns beside its number.
 ghost use mathlib.Core.Path.{_≡_};
 ghost use Rattle.refusal.specs.Refusal.{refusalNumber, refusalPlace};
 
@@ -15,6 +15,8 @@ pub enum Refusal {
     WrongLog(usize),
     // the words wanted
     ShortOutput(usize),
+    // a commit with no list pending
+    NothingPending,
 }
 
 // The part of a kit that a refusal is about, and in which its place is counted.
@@ -36,6 +38,7 @@ impl Refusal {
             Refusal::SeEnds(_) => 5,
             Refusal::WrongLog(_) => 6,
             Refusal::ShortOutput(_) => 7,
+            Refusal::NothingPending => 8,
         }
     }
 
@@ -51,6 +54,7 @@ impl Refusal {
             Refusal::SeEnds(place) => place,
             Refusal::WrongLog(place) => place,
             Refusal::ShortOutput(wanted) => wanted,
+            Refusal::NothingPending => 0,
         }
     }
 }

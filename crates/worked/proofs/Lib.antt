@@ -1,3 +1,5 @@
 pub mod Computing
 pub mod Marked
 pub mod Sharp
+pub mod Wordings
+pub mod Commits

@@ -18,7 +18,7 @@ use Rattle.fault.specs.declared.Fault.{Fault}
 use Rattle.causes.specs.declared.Cause.{Cause}
 use Rattle.state.specs.declared.Given.{Given}
 use Rattle.channel.specs.declared.Channel.{Channel}
-use Rattle.channel.specs.Cycle.{freshChannel}
+use Rattle.channel.specs.Cycle.{withList, freshChannel}
 use Rattle.channel.specs.Word.{word}
 use Rattle.device.specs.Device.{deviceOf}
 use Rattle.demand_3.specs.Calls
@@ -110,7 +110,7 @@ recordWords p =
     (0x40000000 + p) ∷ 0x50000002 ∷ 0x60000000 ∷ (0x40000000 + p) ∷ 0x50000002 ∷ 0x60000000 ∷ 0x70000000 ∷ []
 
 abbrev pub beside : Channel
-beside = record { list = list; state = history list (cs list moving) 2 }
+beside = withList list (history list (cs list moving) 2)
 
 unfoldable pub calls : List Call
 calls = Calls.single (cs list moving 0) 0 ∷ Calls.single (cs list moving 1) 0 ∷ Calls.logged as-b beside (recordWords 401 ++ recordWords 401) (replicate 6 0) ∷ []

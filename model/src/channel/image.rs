@@ -1,16 +1,18 @@
-//! A channel as the library lends it: its data, and its state as words.
+//! A channel as the library lends it: its data, its state as words, and the list asked about.
 //!
-//! Every content of the two arrays stands for some channel. Where it is none that a list and its
+//! Every content of the arrays stands for some channel. Where it is none that a list and its
 //! cycles lead to, data are read at the nearer end of their range, but cams as they stand; they
 //! are reported and compared by cause 12 as they stand, and k follows the count of the list. The
 //! places behind a shorter list's data hold 0, so that its ratios are read as 1 to 1, and the
 //! hysteresis and the filter of n<nx as 0.
 
+use super::ask::whole_array;
 use super::{Channel, Cycle, Report};
 use crate::causes::{Run, F};
+use crate::deviation::{paper, Reading};
 use crate::direction::{Directions, Watched};
 use crate::list::Refusal;
-use crate::log::{self, Record};
+use crate::log::{self, Record, Side};
 use crate::machine_data::{number, range, Function, MachineData, COUNT};
 use crate::nx::Nx;
 use crate::selection::{Selection, Selections};
@@ -18,7 +20,7 @@ use crate::stop::{Rank, Stop};
 use crate::Paper;
 
 /// The words of a state.
-pub const WORDS: usize = 25;
+pub const WORDS: usize = 26;
 
 /// The state of a channel: a signed number stands in two's complement.
 pub type Image = [u32; WORDS];
@@ -75,6 +77,8 @@ pub mod word {
     pub const NEGATIVE_WATCH: usize = 23;
     /// The watch's extreme: the lowest position since it began.
     pub const NEGATIVE_EXTREME: usize = 24;
+    /// How many data the pending list has; 0: none is pending.
+    pub const PENDING: usize = 25;
 }
 
 /// The names of the words, as the header has them behind `MONITOR_STATE_`.
@@ -104,6 +108,7 @@ pub const NAMES: [&str; WORDS] = [
     "NEGATIVE_RUN",
     "NEGATIVE_WATCH",
     "NEGATIVE_EXTREME",
+    "PENDING",
 ];
 
 /// The data of the cams' edges.
@@ -116,31 +121,53 @@ const BRAKING: u32 = 1;
 const HELD: u32 = 2;
 const CANCELLED: u32 = 3;
 
-/// A channel with the two arrays that its caller keeps.
-#[derive(Clone, Debug, PartialEq, Eq)]
+/// A channel with the arrays that its caller keeps.
+#[derive(Clone, Debug)]
 pub struct Lent {
-    data: [i32; COUNT],
-    state: Image,
-    /// What they stand for, with its data within their ranges.
-    channel: Channel,
+    pub(super) data: [i32; COUNT],
+    pub(super) state: Image,
+    /// The list asked about; it counts while the word of the state says so.
+    pub(super) pending: [i32; COUNT],
+    /// What data and state stand for, with its data within their ranges.
+    pub(super) channel: Channel,
 }
 
+/// Two are equal whose arrays are.
+impl PartialEq for Lent {
+    fn eq(&self, other: &Lent) -> bool {
+        let arrays = |of: &Lent| (of.data, of.state, of.pending);
+        arrays(self) == arrays(other)
+    }
+}
+
+impl Eq for Lent {}
+
 impl Lent {
-    /// The channel of an accepted list.
+    /// The channel of an accepted list, with no list asked about yet.
     pub fn fresh(data: MachineData) -> Lent {
         let channel = Channel::fresh(data);
         Lent {
-            data: std::array::from_fn(|number| data.data().get(number).copied().unwrap_or(0)),
+            data: whole_array(&data),
             state: image(&channel, data.head() as u32),
+            pending: [0; COUNT],
             channel,
         }
     }
 
+    /// The channel of an accepted list, in place of the one before: no list is pending, and the array of the one asked about is
+    /// left as it is.
+    pub fn renew(&mut self, data: MachineData) {
+        let pending = self.pending;
+        *self = Lent::fresh(data);
+        self.pending = pending;
+    }
+
     /// The channel that any content stands for.
-    pub fn of(data: [i32; COUNT], state: Image) -> Lent {
+    pub fn of(data: [i32; COUNT], state: Image, pending: [i32; COUNT]) -> Lent {
         Lent {
             data,
             state,
+            pending,
             channel: channel_of(&data, &state),
         }
     }
@@ -153,6 +180,11 @@ impl Lent {
     /// The words of its state.
     pub fn state(&self) -> &Image {
         &self.state
+    }
+
+    /// The list asked about, as it is lent.
+    pub fn pending(&self) -> &[i32; COUNT] {
+        &self.pending
     }
 
     /// What the arrays stand for.
@@ -181,6 +213,19 @@ impl Lent {
         acknowledged: bool,
         report: Report,
     ) -> Cycle {
+        self.cycle_as(Paper, position, inputs, acknowledged, report, None)
+    }
+
+    /// [`Lent::cycle`] by any reading of W7; in a log as A or B.
+    pub fn cycle_as<R: Reading>(
+        &mut self,
+        r: R,
+        position: i32,
+        inputs: u32,
+        acknowledged: bool,
+        report: Report,
+        in_log: Option<char>,
+    ) -> Cycle {
         let own = self.channel.report(position, inputs).datum;
         // All that cause 12 asks of a report's datum is whether it is the own.
         let datum = if report.datum == self.datum() {
@@ -201,21 +246,58 @@ impl Lent {
             // "selections, references and cams stay", bits of no cam too.
             self.state[word::CAMS] = before[word::CAMS];
         }
-        if !(usable && self.channel.data.has(Paper, Function::SafeDirection)) {
+        let on = self.channel.data.has(Paper, Function::SafeDirection);
+        if !(usable && on) {
             // Where the directions stay, their words are not written: any word of a watch, and what stands behind none.
             self.state[DIRECTIONS].copy_from_slice(&before[DIRECTIONS]);
         }
+        paper!(r, (), CommitEndsDirectionsInCycle => if usable && !on {
+            self.state[DIRECTIONS].fill(0);
+            self.channel.directions = Directions::fresh(r);
+        });
+        self.dropped(r, before[word::PENDING], in_log, usable, acknowledged);
         cycle
+    }
+
+    /// The words of the state after a commit: all of them anew, with this count and none pending.
+    pub(super) fn write_committed(&mut self, count: u32) {
+        let before = written(&self.state);
+        self.state = image(&self.channel, count);
+        if self.state[word::CAMS] == before[word::CAMS] & 0xff {
+            // "cams .. go on", bits of no cam too.
+            self.state[word::CAMS] = before[word::CAMS];
+        }
+        let of_no_time = |rank: u32| Rank::of(rank as i32).time().is_none();
+        if before[word::STOP] == BRAKING && of_no_time(before[word::RANK]) {
+            // A stop that brakes, of a rank that has no time: its count is cut to 0.
+            self.state[word::STOP] = BRAKING;
+            self.state[word::RANK] = before[word::RANK];
+            self.state[word::REST] = 0;
+        }
     }
 }
 
 /// [`log::run`], which writes all words of both channels, without a cycle too.
 pub fn run_log(a: &mut Lent, b: &mut Lent, log: &[u32], out: &mut [u32]) -> Result<usize, Refusal> {
-    let cycles = log::room(log, out)?;
+    run_log_as(Paper, a, b, log, out)
+}
+
+/// [`run_log`] by any reading of W7.
+pub fn run_log_as<R: Reading>(
+    r: R,
+    a: &mut Lent,
+    b: &mut Lent,
+    log: &[u32],
+    out: &mut [u32],
+) -> Result<usize, Refusal> {
+    let ran = log::room(log, out);
+    a.no_cycle(r, ran, 'A');
+    b.no_cycle(r, ran, 'B');
+    let cycles = ran?;
     a.state = written(&a.state);
     b.state = written(&b.state);
     for (record, three) in log::records(log).zip(out.chunks_exact_mut(3)) {
-        let (of_a, of_b) = both(a, b, record);
+        let (of_a, of_b) = both_as(r, a, b, record);
         let device = crate::device::word(of_a.word, of_b.word);
         three.copy_from_slice(&[of_a.word, of_b.word, device]);
     }
@@ -224,6 +306,11 @@ pub fn run_log(a: &mut Lent, b: &mut Lent, log: &[u32], out: &mut [u32]) -> Resu
 
 /// [`log::both`]
 pub fn both(a: &mut Lent, b: &mut Lent, record: Record) -> (Cycle, Cycle) {
+    both_as(Paper, a, b, record)
+}
+
+/// [`both`] by any reading of W7.
+fn both_as<R: Reading>(r: R, a: &mut Lent, b: &mut Lent, record: Record) -> (Cycle, Cycle) {
     let Record {
         a: of_a,
         b: of_b,
@@ -231,13 +318,20 @@ pub fn both(a: &mut Lent, b: &mut Lent, record: Record) -> (Cycle, Cycle) {
     } = record;
     let from_a = a.report(of_a.position, of_a.inputs);
     let from_b = b.report(of_b.position, of_b.inputs);
-    (
-        a.cycle(of_a.position, of_a.inputs, acknowledged, from_b),
-        b.cycle(of_b.position, of_b.inputs, acknowledged, from_a),
-    )
+    let of = |lent: &mut Lent, side: Side, from: Report, name: char| {
+        lent.cycle_as(
+            r,
+            side.position,
+            side.inputs,
+            acknowledged,
+            from,
+            Some(name),
+        )
+    };
+    (of(a, of_a, from_b, 'A'), of(b, of_b, from_a, 'B'))
 }
 
-/// The words of a channel.
+/// The words of a channel with no list pending.
 fn image(channel: &Channel, count: u32) -> Image {
     let Selections {
         effective,
@@ -296,6 +390,7 @@ fn image(channel: &Channel, count: u32) -> Image {
         negative[0],
         negative[1],
         negative[2],
+        0,
     ]
 }
 
@@ -331,16 +426,7 @@ fn written(state: &Image) -> Image {
 /// The channel that any content stands for.
 fn channel_of(data: &[i32; COUNT], state: &Image) -> Channel {
     let state = written(state);
-    let within = |number: usize| {
-        if CAMS.contains(&number) {
-            return data[number];
-        }
-        let (low, high) = range(COUNT, number);
-        data[number].clamp(low, high)
-    };
-    let head = state[word::COUNT] as usize;
-    let data = MachineData::looked_through(std::array::from_fn(within), head);
-    let mut channel = Channel::fresh(data);
+    let mut channel = Channel::fresh(machine_data(data, state[word::COUNT]));
     channel.k = state[word::K] as usize;
     if state[word::HAS_PREVIOUS] != 0 {
         channel.previous = Some(state[word::PREVIOUS] as i32);
@@ -370,6 +456,18 @@ fn channel_of(data: &[i32; COUNT], state: &Image) -> Channel {
         negative: watched_of(&state, word::NEGATIVE_RUN),
     };
     channel
+}
+
+/// The list that any content of an array stands for, with this count.
+pub(super) fn machine_data(data: &[i32; COUNT], count: u32) -> MachineData {
+    let within = |number: usize| {
+        if CAMS.contains(&number) {
+            return data[number];
+        }
+        let (low, high) = range(COUNT, number);
+        data[number].clamp(low, high)
+    };
+    MachineData::looked_through(std::array::from_fn(within), count as usize)
 }
 
 /// Run, watch and extreme of three words.

@@ -1,4 +1,6 @@
-//! Lists of calls: channels with any past, reports of any kind, logs and lists that are refused.
+//! Lists of calls: channels with any past, reports of any kind, logs and lists that are refused, lists asked about.
+
+mod asks;
 
 use super::reached::{add_each, named, CODES, RANKS};
 use super::{damage, drive, Parts, Xorshift};
@@ -9,7 +11,8 @@ use crate::gear::GEAR_BITS;
 use crate::list::Refusal;
 use crate::log::Record;
 use crate::machine_data::{number, Function, COUNT, HEADS};
-use crate::{device, direction, list, log, nx, words, Paper};
+use crate::{device, direction, log, nx, words, Paper};
+use asks::AskEvent;
 use std::fmt;
 
 /// How many channels a list of calls has.
@@ -26,6 +29,7 @@ pub enum Call {
         of: usize,
         data: Box<[i32; COUNT]>,
         state: Image,
+        pending: Box<[i32; COUNT]>,
     },
     ReadList {
         of: usize,
@@ -54,9 +58,22 @@ pub enum Call {
         /// The output's words.
         room: usize,
     },
+    Ask {
+        of: usize,
+        position: i32,
+        inputs: u32,
+        report: Report,
+        words: Vec<u32>,
+    },
+    Commit {
+        of: usize,
+    },
 }
 
 impl Call {
+    /// An ask's codes as they are lent.
+    pub const CODES: [u8; 13] = [u8::MAX; 13];
+
     /// An output as it is lent.
     pub fn output(room: usize) -> Vec<u32> {
         vec![MARK; room]
@@ -76,6 +93,9 @@ pub enum Answer {
     },
     DeviceWord(u32),
     Ran(Result<usize, Refusal>, Vec<u32>),
+    /// The words used, and the codes that stand with 0 behind them; those of a refused list as they were lent.
+    Asked(Result<usize, Refusal>, [u8; 13]),
+    Committed(Result<usize, Refusal>),
 }
 
 /// The channels of a list of calls, by the model.
@@ -84,7 +104,7 @@ pub struct Channels(pub [Lent; CHANNELS]);
 
 impl Default for Channels {
     fn default() -> Channels {
-        let none = Lent::of([0; COUNT], [0; WORDS]);
+        let none = Lent::of([0; COUNT], [0; WORDS], [0; COUNT]);
         Channels([none.clone(), none.clone(), none])
     }
 }
@@ -97,15 +117,12 @@ impl Channels {
                 of,
                 ref data,
                 state,
+                ref pending,
             } => {
-                self.0[of] = Lent::of(**data, state);
+                self.0[of] = Lent::of(**data, state, **pending);
                 Answer::Nothing
             }
-            Call::ReadList { of, ref words } => Answer::Read(list::read(words).map(|read| {
-                let (data, used) = read;
-                self.0[of] = Lent::fresh(data);
-                used
-            })),
+            Call::ReadList { of, ref words } => Answer::Read(self.0[of].read_list(words)),
             Call::Report {
                 of,
                 position,
@@ -136,6 +153,18 @@ impl Channels {
                 let ran = image::run_log(of_a, of_b, words, &mut output);
                 Answer::Ran(ran, output)
             }
+            Call::Ask {
+                of,
+                position,
+                inputs,
+                report,
+                ref words,
+            } => {
+                let asked = self.0[of].ask(words, position, inputs, report);
+                let codes = asked.map_or(Call::CODES, |asked| asked.codes);
+                Answer::Asked(asked.map(|asked| asked.used), codes)
+            }
+            Call::Commit { of } => Answer::Committed(self.0[of].commit()),
         }
     }
 
@@ -189,12 +218,18 @@ impl Calls {
         let a = self.random.below(2);
         let b = self.random.pick(&[1 - a, 1 - a, 1 - a, 1 - a, 2]);
         let (a, b) = self.random.pick(&[(a, b), (b, a)]);
-        match self.random.below(30) {
-            0 => self.lend(a),
+        match self.random.below(38) {
+            0 => {
+                self.lend(a);
+                if self.random.percent(60) {
+                    self.call(Call::Commit { of: a });
+                }
+            }
             1 => self.read_lists(&[a, b]),
             2 => self.report(a),
             3 => self.device_word(),
             4..=17 => self.cycles(a, b),
+            30..=37 => self.new_limits(a, b),
             _ => self.run_log(a, b),
         }
     }
@@ -202,7 +237,7 @@ impl Calls {
     /// Any content: numbers of no kind, or a channel with a few words replaced.
     fn lend(&mut self, of: usize) {
         let lent = &self.channels.0[of];
-        let (mut data, mut state) = (*lent.data(), *lent.state());
+        let (mut data, mut state, mut pending) = (*lent.data(), *lent.state(), *lent.pending());
         let random = &mut self.random;
         match random.below(4) {
             0 => data = std::array::from_fn(|_| odd(random) as i32),
@@ -218,8 +253,18 @@ impl Calls {
                 }
             }
         }
-        let data = Box::new(data);
-        self.call(Call::Lend { of, data, state });
+        match random.below(4) {
+            0 => pending = std::array::from_fn(|_| odd(random) as i32),
+            1 => pending = data,
+            _ => (),
+        }
+        let (data, pending) = (Box::new(data), Box::new(pending));
+        self.call(Call::Lend {
+            of,
+            data,
+            state,
+            pending,
+        });
     }
 
     /// The lists of a kit, as far as they are accepted. The third list is the first again, or
@@ -286,8 +331,11 @@ impl Calls {
                 true => self.last[b],
                 false => odd(&mut self.random),
             };
-            let a = self.last[a];
-            self.call(Call::DeviceWord { a, b: other });
+            let word = self.last[a];
+            self.call(Call::DeviceWord { a: word, b: other });
+            if asks::brakes(self.channels.0[a].channel()) && self.random.percent(15) {
+                self.new_limits(a, b);
+            }
         }
     }
 
@@ -534,6 +582,9 @@ pub struct ReachedCalls {
     /// Channel words by rank.
     ranks: [u64; 6],
     events: Vec<u64>,
+    /// Asks with a refused list by number, 1 first.
+    asks_refused: [u64; 5],
+    asks: Vec<u64>,
 }
 
 impl Default for ReachedCalls {
@@ -546,6 +597,8 @@ impl Default for ReachedCalls {
             causes: [0; 14],
             ranks: [0; 6],
             events: vec![0; Event::NAMES.len()],
+            asks_refused: [0; 5],
+            asks: vec![0; AskEvent::NAMES.len()],
         }
     }
 }
@@ -565,6 +618,8 @@ struct Past {
     /// Its k before its last cycle.
     k: usize,
     rank: u32,
+    /// Whether there was a commit since its last cycle.
+    committed: bool,
 }
 
 impl ReachedCalls {
@@ -577,6 +632,8 @@ impl ReachedCalls {
         add_each(&mut self.causes, &other.causes);
         add_each(&mut self.ranks, &other.ranks);
         add_each(&mut self.events, &other.events);
+        add_each(&mut self.asks_refused, &other.asks_refused);
+        add_each(&mut self.asks, &other.asks);
     }
 
     /// Counts what a list of calls reaches.
@@ -588,6 +645,7 @@ impl ReachedCalls {
             self.calls += 1;
             let before = channels.clone();
             let answer = channels.answer(call);
+            self.asks(call, &answer, &before.0, &mut pasts);
             self.one(call, &answer, &before, &mut pasts);
         }
     }
@@ -879,6 +937,8 @@ impl ReachedCalls {
         table("cause ", &self.causes, &CODES);
         table("channel rank ", &self.ranks, &RANKS);
         table("", &self.events, Event::NAMES);
+        table("an ask refused with ", &self.asks_refused, &CODES);
+        table("", &self.asks, AskEvent::NAMES);
         counts
     }
 }

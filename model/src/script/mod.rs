@@ -9,7 +9,7 @@ mod read;
 mod run;
 
 pub use plain::plain;
-pub use run::{run, Board, Cycle, Difference, Model};
+pub use run::{report_of, run, Asked, Board, Cycle, Difference, Model};
 
 #[cfg(feature = "proved")]
 pub use run::Proved;
@@ -52,6 +52,18 @@ pub enum Call {
         /// The output's words.
         room: usize,
     },
+    /// A list is asked about, with what a cycle would be given.
+    Ask {
+        of: usize,
+        position: i32,
+        inputs: u32,
+        report: Given,
+        words: Vec<u32>,
+    },
+    /// The list that is pending is taken.
+    Commit {
+        of: usize,
+    },
     Copy {
         from: usize,
         to: usize,
@@ -73,7 +85,7 @@ pub enum Call {
     },
 }
 
-/// The report that a cycle is given.
+/// The report that a cycle is given, or a list asked about with.
 #[derive(Clone, Copy, Debug, PartialEq, Eq)]
 pub enum Given {
     /// These words.

@@ -21,6 +21,8 @@ fn number(call: &Call) -> u32 {
         Call::Like { .. } => 7,
         Call::State { .. } => 8,
         Call::Put { .. } => 9,
+        Call::Ask { .. } => 10,
+        Call::Commit { .. } => 11,
     }
 }
 

@@ -10,8 +10,9 @@ use crate::words;
 use std::collections::BTreeMap;
 
 /// The words that begin a call; a line that begins with another belongs to the call above it.
-const CALLS: [&str; 10] = [
-    "list", "lists", "report", "cycle", "device", "log", "copy", "like", "state", "put",
+const CALLS: [&str; 12] = [
+    "list", "lists", "report", "cycle", "device", "log", "ask", "commit", "copy", "like", "state",
+    "put",
 ];
 
 /// The most that one line may be repeated.
@@ -43,6 +44,8 @@ struct Reading {
     channels: Vec<String>,
     /// The data of the last accepted list of each channel that has one.
     stated: BTreeMap<usize, Stated>,
+    /// Those of the last accepted list that it was asked about.
+    asked: BTreeMap<usize, Stated>,
     steps: Vec<Step>,
 }
 
@@ -138,6 +141,15 @@ impl Reading {
                 let answer = accepted("accepted", answer).map_err(here)?;
                 return self.list(block, &names, &options, &answer);
             }
+            "ask" => {
+                block.no_body(true)?;
+                let (call, stated) = self.ask(block, &mut tokens)?;
+                let answer = asked_answer(answer).map_err(here)?;
+                if let (Call::Ask { of, .. }, 0) = (&call, answer[0]) {
+                    self.asked.insert(*of, stated);
+                }
+                self.push(number, call, answer);
+            }
             "log" => {
                 let (a, b, room) = self.log(&mut tokens).map_err(here)?;
                 let (words, output) = log_words(block)?;
@@ -193,6 +205,21 @@ impl Reading {
         answer: &[u32],
     ) -> Result<(), Fault> {
         let here = |reason: String| fault(block.call.number, reason);
+        let (words, stated) = self.list_words(block, options)?;
+        for name in names {
+            let of = self.new_channel(name).map_err(here)?;
+            let words = words.clone();
+            self.push(block.call.number, Call::List { of, words }, answer.into());
+            if answer[0] == 0 {
+                self.stated.insert(of, stated);
+            }
+        }
+        Ok(())
+    }
+
+    /// The words of the list that a block says, with its options, and its data.
+    fn list_words(&self, block: &Block, options: &str) -> Result<(Vec<u32>, Stated), Fault> {
+        let here = |reason: String| fault(block.call.number, reason);
         let (options, before) = match options.split_once("else as ") {
             None => (options.to_string(), None),
             Some((front, behind)) => {
@@ -204,16 +231,42 @@ impl Reading {
         };
         let text = block.kit(&format!("list {options}"));
         let (bytes, stated) = assemble::list(&text, before)?;
-        let words = whole_words(&bytes).map_err(here)?;
-        for name in names {
-            let of = self.new_channel(name).map_err(here)?;
-            let words = words.clone();
-            self.push(block.call.number, Call::List { of, words }, answer.into());
-            if answer[0] == 0 {
-                self.stated.insert(of, stated);
-            }
+        Ok((whole_words(&bytes).map_err(here)?, stated))
+    }
+
+    /// `X 401 SG1, report of Y, list of 67 data, else as X`, with the list's data below.
+    fn ask(&self, block: &Block, tokens: &mut Tokens) -> Result<(Call, Stated), Fault> {
+        let here = |reason: String| fault(block.call.number, reason);
+        let of = self.channel(tokens).map_err(here)?;
+        let (position, inputs) = side(tokens).map_err(here)?;
+        let report = self.given(tokens, position, inputs).map_err(here)?;
+        let options: Vec<&str> = match tokens.next_if_eq(&"list") {
+            None => Vec::new(),
+            Some(_) => tokens.collect(),
+        };
+        let (words, stated) = self.list_words(block, &options.join(" "))?;
+        let call = Call::Ask {
+            of,
+            position,
+            inputs,
+            report,
+            words,
+        };
+        Ok((call, stated))
+    }
+
+    /// `commit X`: its list is then the one asked about.
+    fn commit(
+        &mut self,
+        tokens: &mut Tokens,
+        answer: Option<&str>,
+    ) -> Result<(Call, Vec<u32>), String> {
+        let of = self.channel(tokens)?;
+        let answer = accepted("committed", answer)?;
+        if let (0, Some(&stated)) = (answer[0], self.asked.get(&of)) {
+            self.stated.insert(of, stated);
         }
-        Ok(())
+        Ok((Call::Commit { of }, answer))
     }
 
     /// `X Y output 6`
@@ -247,6 +300,7 @@ impl Reading {
                 Ok((call, report_answer(wanted(answer)?)?))
             }
             "cycle" => Ok((self.cycle(tokens)?, cycle_answer(wanted(answer)?)?)),
+            "commit" => self.commit(tokens, answer),
             "device" => {
                 let a = word(next(tokens, "a channel word")?)?;
                 let b = word(next(tokens, "a channel word")?)?;
@@ -257,8 +311,10 @@ impl Reading {
                 let from = self.channel(tokens)?;
                 expect(tokens, "to")?;
                 let to = self.new_channel(next(tokens, "a channel's name")?)?;
-                if let Some(&stated) = self.stated.get(&from) {
-                    self.stated.insert(to, stated);
+                for of in [&mut self.stated, &mut self.asked] {
+                    if let Some(&stated) = of.get(&from) {
+                        of.insert(to, stated);
+                    }
                 }
                 no_answer(Call::Copy { from, to }, answer)
             }
@@ -298,29 +354,31 @@ impl Reading {
                 }
             }
         };
-        expect(tokens, "report")?;
-        let report = match tokens.next_if_eq(&"of") {
-            None => Given::Words(report(tokens)?),
-            Some(_) => {
-                let of = self.channel(tokens)?;
-                // Without a word it is at the same position with the same inputs.
-                let (position, inputs) = match tokens.peek() {
-                    None | Some(&"times") => (position, inputs),
-                    Some(_) => side(tokens)?,
-                };
-                Given::Of {
-                    of,
-                    position,
-                    inputs,
-                }
-            }
-        };
         Ok(Call::Cycle {
             of,
             position,
             inputs,
             acknowledged,
-            report,
+            report: self.given(tokens, position, inputs)?,
+        })
+    }
+
+    /// `report of Y`, `report 401 SG1 datum 12`
+    fn given(&self, tokens: &mut Tokens, position: i32, inputs: u32) -> Result<Given, String> {
+        expect(tokens, "report")?;
+        if tokens.next_if_eq(&"of").is_none() {
+            return Ok(Given::Words(report(tokens)?));
+        }
+        let of = self.channel(tokens)?;
+        // Without a word it is at the same position with the same inputs.
+        let (position, inputs) = match tokens.peek() {
+            None | Some(&"times" | &"list") => (position, inputs),
+            Some(_) => side(tokens)?,
+        };
+        Ok(Given::Of {
+            of,
+            position,
+            inputs,
         })
     }
 }
@@ -346,7 +404,7 @@ fn side(tokens: &mut Tokens) -> Result<(i32, u32), String> {
     let position = integer(next(tokens, what)?, ends.0, ends.1, what)?;
     let mut inputs = InputWord::default();
     while let Some(token) =
-        tokens.next_if(|token| !["ack", "report", "datum", "times"].contains(token))
+        tokens.next_if(|token| !["ack", "report", "datum", "times", "list"].contains(token))
     {
         if !inputs.take(token, tokens)? {
             return Err(format!("'{token}' is not known as an input"));
@@ -443,16 +501,38 @@ fn cycle_answer(text: &str) -> Result<Vec<u32>, String> {
     let tokens: Vec<&str> = tokens.iter().map(String::as_str).collect();
     let (word, causes) = tokens.split_first().ok_or_else(wrong)?;
     let mut answer = vec![channel_word(word)?];
-    match causes {
-        ["no", "cause"] => (),
-        ["cause" | "causes", codes @ ..] if !codes.is_empty() => {
-            for code in codes {
-                answer.push(integer(code, 1, 14, "a cause code")? as u32);
-            }
-        }
-        _ => return Err(wrong()),
-    }
+    answer.extend(codes_of(causes)?.ok_or_else(wrong)?);
     Ok(answer)
+}
+
+/// `causes 3 9`, `no cause`: the codes, if it is said so.
+fn codes_of(causes: &[&str]) -> Result<Option<Vec<u32>>, String> {
+    match causes {
+        ["no", "cause"] => Ok(Some(Vec::new())),
+        ["cause" | "causes", codes @ ..] if !codes.is_empty() => {
+            let code = |code: &&str| integer(code, 1, 14, "a cause code").map(|code| code as u32);
+            codes.iter().map(code).collect::<Result<_, _>>().map(Some)
+        }
+        _ => Ok(None),
+    }
+}
+
+/// `accepted 154 causes 3 9`, `accepted 154 no cause`; `refused 4 10`.
+fn asked_answer(answer: Option<&str>) -> Result<Vec<u32>, String> {
+    let text = wanted(answer)?;
+    let wrong =
+        format!("'{text}' is not accepted N with its causes or no cause, or refused NUMBER PLACE");
+    let tokens = tokens(text);
+    let tokens: Vec<&str> = tokens.iter().map(String::as_str).collect();
+    match tokens[..] {
+        ["accepted", at, ref causes @ ..] => {
+            let mut answer = accepted("accepted", Some(&format!("accepted {at}")))?;
+            answer.extend(codes_of(causes)?.ok_or(wrong)?);
+            Ok(answer)
+        }
+        ["refused", ..] => accepted("accepted", answer),
+        _ => Err(wrong),
+    }
 }
 
 /// A channel word as the bench lists it.

@@ -4,7 +4,7 @@ use super::{Call, Given, Script, MARK};
 use crate::channel::image::{self, Lent, WORDS};
 use crate::channel::Report;
 use crate::kit::input_words;
-use crate::list::{self, Refusal};
+use crate::list::Refusal;
 use crate::machine_data::{COUNT, HEADS};
 use std::fmt;
 
@@ -13,6 +13,20 @@ use std::fmt;
 pub struct Cycle {
     pub word: u32,
     pub codes: [u8; 13],
+}
+
+/// What an ask gives.
+#[derive(Clone, Copy, Debug, PartialEq, Eq)]
+pub struct Asked {
+    /// The words used, or the refusal.
+    pub told: Result<usize, Refusal>,
+    /// The codes with 0 behind them; those of a refused one as they were.
+    pub codes: [u8; 13],
+}
+
+impl Asked {
+    /// What the codes are before an ask.
+    pub const BEFORE: [u8; 13] = [u8::MAX; 13];
 }
 
 /// What a script is run on: the functions of `include/axis_monitor.h`.
@@ -43,6 +57,19 @@ pub trait Board {
         output: &mut [u32],
     ) -> Result<usize, Refusal>;
 
+    fn ask(
+        channel: &mut Self::Channel,
+        words: &[u32],
+        position: i32,
+        inputs: u32,
+        report: &[u32; 4],
+    ) -> Asked;
+
+    fn commit(channel: &mut Self::Channel) -> Result<usize, Refusal>;
+
+    /// What an ask must leave alone: the channel with none pending and, if the list was accepted, without the array of it.
+    fn but_for_pending(channel: &Self::Channel, accepted: bool) -> Self::Channel;
+
     /// A word of its state.
     fn state(channel: &Self::Channel, word: usize) -> u32;
 
@@ -57,13 +84,11 @@ impl Board for Model {
     type Channel = Lent;
 
     fn none() -> Lent {
-        Lent::of([0; COUNT], [0; WORDS])
+        Lent::of([0; COUNT], [0; WORDS], [0; COUNT])
     }
 
     fn list(channel: &mut Lent, words: &[u32]) -> Result<usize, Refusal> {
-        let (data, used) = list::read(words)?;
-        *channel = Lent::fresh(data);
-        Ok(used)
+        channel.read_list(words)
     }
 
     fn report(channel: &Lent, position: i32, inputs: u32) -> [u32; 4] {
@@ -83,13 +108,7 @@ impl Board for Model {
         acknowledged: u32,
         report: &[u32; 4],
     ) -> Cycle {
-        let report = Report {
-            position: report[0] as i32,
-            inputs: report[1],
-            datum: report[2] as i32,
-            head: report[3] as usize,
-        };
-        let cycle = channel.cycle(position, inputs, acknowledged != 0, report);
+        let cycle = channel.cycle(position, inputs, acknowledged != 0, report_of(report));
         Cycle {
             word: cycle.word,
             codes: cycle.causes.list(),
@@ -109,6 +128,35 @@ impl Board for Model {
         image::run_log(a, b, words, output)
     }
 
+    fn ask(
+        channel: &mut Lent,
+        words: &[u32],
+        position: i32,
+        inputs: u32,
+        report: &[u32; 4],
+    ) -> Asked {
+        let asked = channel.ask(words, position, inputs, report_of(report));
+        Asked {
+            told: asked.map(|asked| asked.used),
+            codes: asked.map_or(Asked::BEFORE, |asked| asked.codes),
+        }
+    }
+
+    fn commit(channel: &mut Lent) -> Result<usize, Refusal> {
+        channel.commit()
+    }
+
+    fn but_for_pending(channel: &Lent, accepted: bool) -> Lent {
+        let mut state = *channel.state();
+        state[image::word::PENDING] = 0;
+        let pending = if accepted {
+            [0; COUNT]
+        } else {
+            *channel.pending()
+        };
+        Lent::of(*channel.data(), state, pending)
+    }
+
     fn state(channel: &Lent, word: usize) -> u32 {
         channel.state()[word]
     }
@@ -116,7 +164,17 @@ impl Board for Model {
     fn put(channel: &mut Lent, word: usize, value: u32) {
         let mut state = *channel.state();
         state[word] = value;
-        *channel = Lent::of(*channel.data(), state);
+        *channel = Lent::of(*channel.data(), state, *channel.pending());
+    }
+}
+
+/// A report of its four words.
+pub fn report_of(report: &[u32; 4]) -> Report {
+    Report {
+        position: report[0] as i32,
+        inputs: report[1],
+        datum: report[2] as i32,
+        head: report[3] as usize,
     }
 }
 
@@ -165,6 +223,31 @@ impl Board for Proved {
         output: &mut [u32],
     ) -> Result<usize, Refusal> {
         crate::proved::run_log(a, b, words, output)
+    }
+
+    fn ask(
+        channel: &mut Self::Channel,
+        words: &[u32],
+        position: i32,
+        inputs: u32,
+        report: &[u32; 4],
+    ) -> Asked {
+        let mut codes = Asked::BEFORE;
+        let told = channel.ask(words, position, inputs, report, &mut codes);
+        Asked { told, codes }
+    }
+
+    fn commit(channel: &mut Self::Channel) -> Result<usize, Refusal> {
+        channel.commit()
+    }
+
+    fn but_for_pending(channel: &Self::Channel, accepted: bool) -> Self::Channel {
+        let mut left = *channel;
+        left.state[image::word::PENDING] = 0;
+        if accepted {
+            left.pending = [0; COUNT];
+        }
+        left
     }
 
     fn state(channel: &Self::Channel, word: usize) -> u32 {
@@ -216,11 +299,23 @@ pub fn run<B: Board>(script: &Script) -> Result<Vec<Done>, Difference> {
             let (expected, found) = told(&step.call, &step.answer, &done.answer);
             return Err(difference(format!("expected {expected}; found {found}")));
         }
-        let changed = |&of: &usize| channels[of] != before[of] && !done.may_change.contains(&of);
+        let left_alone = |of: usize| match step.call {
+            Call::Ask { of: asked, .. } if asked == of => {
+                let accepted = done.answer[0] == 0;
+                let left = [&before[of], &channels[of]].map(|of| B::but_for_pending(of, accepted));
+                left[0] == left[1]
+            }
+            _ => channels[of] == before[of] || done.may_change.contains(&of),
+        };
+        let changed = |&of: &usize| !left_alone(of);
         if let Some(of) = (0..channels.len()).find(changed) {
             let name = &script.channels[of];
+            let but = match step.call {
+                Call::Ask { of: asked, .. } if asked == of => " but for its pending list",
+                _ => "",
+            };
             return Err(difference(format!(
-                "expected channel {name} as it was; found it changed"
+                "expected channel {name} as it was{but}; found it changed"
             )));
         }
         all.push(done);
@@ -255,14 +350,7 @@ fn make<B: Board>(channels: &mut [B::Channel], call: &Call) -> Done {
             acknowledged,
             report,
         } => {
-            let report = match report {
-                Given::Words(report) => report,
-                Given::Of {
-                    of,
-                    position,
-                    inputs,
-                } => B::report(&channels[of], position, inputs),
-            };
+            let report = given::<B>(channels, report);
             let cycle = B::cycle(&mut channels[of], position, inputs, acknowledged, &report);
             let given = [of as u32, position as u32, inputs, acknowledged];
             Done {
@@ -290,6 +378,30 @@ fn make<B: Board>(channels: &mut [B::Channel], call: &Call) -> Done {
                 given: [&[a as u32, b as u32, room as u32], &words[..]].concat(),
                 answer: [&numbers(ran), &output[..]].concat(),
                 may_change: ran.iter().flat_map(|_| [a, b]).collect(),
+            }
+        }
+        Call::Ask {
+            of,
+            position,
+            inputs,
+            report,
+            ref words,
+        } => {
+            let report = given::<B>(channels, report);
+            let asked = B::ask(&mut channels[of], words, position, inputs, &report);
+            let given = [of as u32, position as u32, inputs];
+            Done {
+                given: [&given[..], &report, words].concat(),
+                answer: of_ask(&asked),
+                may_change: vec![of],
+            }
+        }
+        Call::Commit { of } => {
+            let committed = B::commit(&mut channels[of]);
+            Done {
+                given: vec![of as u32],
+                answer: numbers(committed).into(),
+                may_change: committed.iter().map(|_| of).collect(),
             }
         }
         Call::Copy { from, to } => {
@@ -321,6 +433,18 @@ fn make<B: Board>(channels: &mut [B::Channel], call: &Call) -> Done {
     }
 }
 
+/// The words of a report that a call is given.
+fn given<B: Board>(channels: &[B::Channel], report: Given) -> [u32; 4] {
+    match report {
+        Given::Words(report) => report,
+        Given::Of {
+            of,
+            position,
+            inputs,
+        } => B::report(&channels[of], position, inputs),
+    }
+}
+
 /// 0 and what is told of an accepted call, or a refusal's number and place.
 fn numbers(answer: Result<usize, Refusal>) -> [u32; 2] {
     match answer {
@@ -329,13 +453,23 @@ fn numbers(answer: Result<usize, Refusal>) -> [u32; 2] {
     }
 }
 
-/// A cycle's word, then its codes as they stand, without the zeros behind them.
+/// A cycle's word, then its codes.
 fn of_cycle(cycle: &Cycle) -> Vec<u32> {
-    let last = cycle.codes.iter().rposition(|&code| code != 0);
-    let codes = &cycle.codes[..last.map_or(0, |last| last + 1)];
-    let mut answer = vec![cycle.word];
-    answer.extend(codes.iter().map(|&code| u32::from(code)));
-    answer
+    [&[cycle.word], &stand(&cycle.codes)[..]].concat()
+}
+
+/// What is told of a list, then the codes; of a refused one only codes that were changed.
+fn of_ask(asked: &Asked) -> Vec<u32> {
+    let left = asked.told.is_err() && asked.codes == Asked::BEFORE;
+    let codes = if left { vec![] } else { stand(&asked.codes) };
+    [&numbers(asked.told)[..], &codes].concat()
+}
+
+/// Codes as they stand, without the zeros behind them.
+fn stand(codes: &[u8; 13]) -> Vec<u32> {
+    let last = codes.iter().rposition(|&code| code != 0);
+    let codes = &codes[..last.map_or(0, |last| last + 1)];
+    codes.iter().map(|&code| u32::from(code)).collect()
 }
 
 /// Two answers as a script says them; of two outputs the first words that differ.
@@ -368,14 +502,12 @@ fn text(call: &Call, answer: &[u32]) -> String {
             };
             format!("{position} {inputs} datum {}{head}", answer[2] as i32)
         }
-        Call::Cycle { .. } => match answer {
-            [word] => format!("{word:08x} no cause"),
-            [word, codes @ ..] => {
-                let codes: Vec<String> = codes.iter().map(u32::to_string).collect();
-                format!("{word:08x} causes {}", codes.join(" "))
-            }
-            [] => String::new(),
-        },
+        Call::Cycle { .. } => format!("{:08x} {}", answer[0], causes(&answer[1..])),
+        Call::Ask { .. } if answer[0] == 0 => {
+            format!("{} {}", accepted("accepted"), causes(&answer[2..]))
+        }
+        Call::Ask { .. } => accepted("accepted"),
+        Call::Commit { .. } => accepted("committed"),
         Call::Device { .. } => format!("{:x}", answer[0]),
         Call::Copy { .. } | Call::Put { .. } => "nothing".into(),
         Call::State { .. } => answer[0].to_string(),
@@ -383,5 +515,16 @@ fn text(call: &Call, answer: &[u32]) -> String {
             [0] => "no".into(),
             _ => "yes".into(),
         },
+    }
+}
+
+/// Codes as a script says them.
+fn causes(codes: &[u32]) -> String {
+    match codes {
+        [] => "no cause".into(),
+        codes => {
+            let codes: Vec<String> = codes.iter().map(u32::to_string).collect();
+            format!("causes {}", codes.join(" "))
+        }
     }
 }

@@ -69,10 +69,13 @@ element-copy-out-t62 c = search needs
 element-copy-out-t65 : tie.Need-element-copy-out-t65
 element-copy-out-t65 c = search needs
 
+element-copy-out-t68 : tie.Need-element-copy-out-t68
+element-copy-out-t68 c = search needs
+
 returns : tie.Need-returns
-returns c = let a = c .before .before .before .before .before .before .before .before .before .before .before .before .before .before .before .before .before .before .before .before .before .before .before .before .args in
-    let fits : DirectionsFit (a .directions) = record { positive = c .before .before .before .before .before .before .before .before .before .before .before .before .before .before .before .before .before .before .before .before .before .watch-words .ensures .1; negative = c .before .before .before .before .before .before .before .before .before .before .before .before .before .before .before .before .before .before .before .before .watch-words2 .ensures .1 } in
-    written-directions (a .directions) fits (now (a .words)) (simp (c .before .before .before .before .before .before .before .before .before .before .before .before .before .before .before .before .before .before .before .before .before .watch-words .ensures .0, c .before .before .before .before .before .before .before .before .before .before .before .before .before .before .before .before .before .before .before .before .watch-words2 .ensures .0))
+returns c = let a = c .before .before .before .before .before .before .before .before .before .before .before .before .before .before .before .before .before .before .before .before .before .before .before .before .before .args in
+    let fits : DirectionsFit (a .directions) = record { positive = c .before .before .before .before .before .before .before .before .before .before .before .before .before .before .before .before .before .before .before .before .before .before .watch-words .ensures .1; negative = c .before .before .before .before .before .before .before .before .before .before .before .before .before .before .before .before .before .before .before .before .before .watch-words2 .ensures .1 } in
+    written-directions (a .directions) fits (now (a .words)) (simp (c .before .before .before .before .before .before .before .before .before .before .before .before .before .before .before .before .before .before .before .before .before .before .watch-words .ensures .0, c .before .before .before .before .before .before .before .before .before .before .before .before .before .before .before .before .before .before .before .before .before .watch-words2 .ensures .0))
 
 pub put-directions-spec : {M : Type 1} → statement M
 put-directions-spec =
@@ -99,4 +102,5 @@ put-directions-spec =
     element-copy-out-t59
     element-copy-out-t62
     element-copy-out-t65
+    element-copy-out-t68
     returns)

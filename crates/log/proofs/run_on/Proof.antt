@@ -2,7 +2,7 @@
 use mathlib.Core.Path.{sym, _∙_}
 use native.Mathlib.Omega.{arith}
 use denote.Ref.{now}
-use Rattle.log.specs.Left.{beside}
+use Rattle.log.specs.Left.{beside, keeping}
 use Rattle.log.proofs.Answers.{too-long, bad-word, no-room, sound, few-cycles}
 use borrow.Author.Needs.{needs}
 use Rattle.log.proofs.run_on.Statement.{statement}
@@ -12,7 +12,8 @@ refused-requires : tie.Need-refused-requires
 refused-requires c κs = search needs
 
 returns : tie.Need-returns
-returns c = let a = c .before .before .before .before .args in too-long (beside (now (a .da)) (a .na) (a .a)) (beside (now (a .db)) (a .nb) (a .b)) (now (a .words)) (now (a .out)) (c .refused .ensures) (c .before .if1 .taken)
+returns c = let a = c .before .before .before .before .args in
+    λ i p q. (too-long (keeping p (beside (now (a .da)) (a .na) (a .a))) (keeping q (beside (now (a .db)) (a .nb) (a .b))) (now (a .words)) (now (a .out)) (c .refused .ensures) (c .before .if1 .taken)) i
 
 scan-log-requires : tie.Need-scan-log-requires
 scan-log-requires c κs = search needs
@@ -39,7 +40,8 @@ refused-requires-3 : tie.Need-refused-requires-3
 refused-requires-3 c κs = search needs
 
 returns-2 : tie.Need-returns-2
-returns-2 c = let a = c .before .before .before .before .before .before .before .before .before .args in no-room (beside (now (a .da)) (a .na) (a .a)) (beside (now (a .db)) (a .nb) (a .b)) (now (a .words)) (now (a .out)) (c .before .before .before .before .before .before .if1 .left) (c .refused2 .ensures) (sym (c .before .before .before .before .before .scan-log .ensures) ∙ c .before .before .before .cycles .given .1) (c .before .if2 .taken)
+returns-2 c = let a = c .before .before .before .before .before .before .before .before .before .args in
+    λ i p q. (no-room (keeping p (beside (now (a .da)) (a .na) (a .a))) (keeping q (beside (now (a .db)) (a .nb) (a .b))) (now (a .words)) (now (a .out)) (c .before .before .before .before .before .before .if1 .left) (c .refused2 .ensures) (sym (c .before .before .before .before .before .scan-log .ensures) ∙ c .before .before .before .cycles .given .1) (c .before .if2 .taken)) i
 
 same-length : tie.Need-same-length
 same-length c = search needs
@@ -48,7 +50,8 @@ returns-3 : tie.Need-returns-3
 returns-3 c = c .before .before .accepted .ensures
 
 returns-4 : tie.Need-returns-4
-returns-4 c = let a = c .before .before .before .before .before .before .before .before .args in bad-word (beside (now (a .da)) (a .na) (a .a)) (beside (now (a .db)) (a .nb) (a .b)) (now (a .words)) (now (a .out)) (c .before .before .before .before .before .if1 .left) (c .refused3 .ensures) (sym (c .before .before .before .before .scan-log .ensures) ∙ c .before .before .place .given .1)
+returns-4 c = let a = c .before .before .before .before .before .before .before .before .args in
+    λ i p q. (bad-word (keeping p (beside (now (a .da)) (a .na) (a .a))) (keeping q (beside (now (a .db)) (a .nb) (a .b))) (now (a .words)) (now (a .out)) (c .before .before .before .before .before .if1 .left) (c .refused3 .ensures) (sym (c .before .before .before .before .scan-log .ensures) ∙ c .before .before .place .given .1)) i
 
 pub run-on-spec : {M : Type 1} → statement M
 run-on-spec =

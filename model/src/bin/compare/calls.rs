@@ -1,6 +1,7 @@
 //! Random lists of calls: every function of a board's loop, on channels with any past.
 
 use crate::{Difference, Tally};
+use model::channel::image::Lent;
 use model::channel::Report;
 use model::proved::{self, Channel};
 use model::random::{self, Answer, Call, Channels, ReachedCalls, CHANNELS};
@@ -25,9 +26,10 @@ impl Tally for Calls {
             let what = match (given == wanted, different(&model, &proved)) {
                 (true, None) => continue,
                 (true, Some(of)) => format!(
-                    "channel {of} is left otherwise\n  model:  {:x?}\n  proved: {:x?}",
+                    "channel {of} is left otherwise\n  model:  {:x?}\n  proved: {:x?}{}",
                     model.0[of].state(),
-                    proved[of].state
+                    proved[of].state,
+                    lists(&model.0[of], &proved[of])
                 ),
                 (false, _) => format!(
                     "the answers\n  model:  {}\n  proved: {}",
@@ -66,9 +68,20 @@ impl fmt::Display for Calls {
 fn different(model: &Channels, proved: &[Channel; CHANNELS]) -> Option<usize> {
     let same = |of: &usize| {
         let (model, proved) = (&model.0[*of], &proved[*of]);
-        model.data() == &proved.data && model.state() == &proved.state
+        let arrays = (model.data(), model.state(), model.pending());
+        arrays == (&proved.data, &proved.state, &proved.pending)
     };
     (0..CHANNELS).find(|of| !same(of))
+}
+
+/// Which of the two lists of a channel differ.
+fn lists(model: &Lent, proved: &Channel) -> String {
+    let differ = |name: &str, same: bool| match same {
+        true => String::new(),
+        false => format!("\n  the {name} differs"),
+    };
+    let in_force = differ("list in force", model.data() == &proved.data);
+    in_force + &differ("list asked about", model.pending() == &proved.pending)
 }
 
 /// What the proved monitor gives for a call.
@@ -78,9 +91,14 @@ fn answer(channels: &mut [Channel; CHANNELS], call: &Call) -> Answer {
             of,
             ref data,
             state,
+            ref pending,
         } => {
-            let data = **data;
-            channels[of] = Channel { data, state };
+            let (data, pending) = (**data, **pending);
+            channels[of] = Channel {
+                data,
+                state,
+                pending,
+            };
             Answer::Nothing
         }
         Call::ReadList { of, ref words } => Answer::Read(channels[of].read_list(words)),
@@ -122,6 +140,18 @@ fn answer(channels: &mut [Channel; CHANNELS], call: &Call) -> Answer {
             (channels[a], channels[b]) = (of_a, of_b);
             Answer::Ran(ran, output)
         }
+        Call::Ask {
+            of,
+            position,
+            inputs,
+            report,
+            ref words,
+        } => {
+            let (report, mut codes) = (proved::lent(report), Call::CODES);
+            let asked = channels[of].ask(words, position, inputs, &report, &mut codes);
+            Answer::Asked(asked, codes)
+        }
+        Call::Commit { of } => Answer::Committed(channels[of].commit()),
     }
 }
 

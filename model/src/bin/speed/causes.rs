@@ -53,6 +53,7 @@ impl Again {
             proved: Channel {
                 data: *a.data(),
                 state: *a.state(),
+                pending: *a.pending(),
             },
             model: *a.channel(),
         })

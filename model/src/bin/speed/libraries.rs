@@ -17,7 +17,7 @@ type Cycle = unsafe extern "C" fn(
     *mut [u8; 13],
 ) -> u32;
 
-/// What is timed of the two archives.
+/// What is timed of the archives.
 #[derive(Clone, Copy)]
 pub struct Library {
     run_kit: RunKit,
@@ -97,7 +97,7 @@ impl Library {
         acknowledged: bool,
         report: &[u32; 4],
     ) -> proved::Cycle {
-        let Channel { data, state } = channel;
+        let Channel { data, state, .. } = channel;
         let Side { position, inputs } = given;
         let acknowledged = acknowledged.into();
         let mut codes = [0; 13];

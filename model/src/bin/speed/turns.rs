@@ -210,6 +210,7 @@ impl Log {
             proved: Channel {
                 data: *fresh.data(),
                 state: *fresh.state(),
+                pending: *fresh.pending(),
             },
             output: vec![0; 3 * CYCLES],
         })

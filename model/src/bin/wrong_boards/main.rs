@@ -139,14 +139,15 @@ fn work_in(folder: &Path, arguments: &Arguments) -> Result<bool, String> {
     Ok(report(&sources, &all, &outcomes, &reasons))
 }
 
-/// A module that no listing is made by: a channel in the arrays of the library's caller.
-const NOT_LISTED: &str = "pub mod image;\n";
+/// Modules that no listing is made by: asks, commits, and a channel in the arrays of the library's caller.
+const NOT_LISTED: [&str; 3] = ["pub mod ask;\n", "pub mod commit;\n", "pub mod image;\n"];
 
 fn sources() -> io::Result<Vec<Source>> {
     let read = |module: &&str| {
         let file = format!("{module}.rs");
         let text = fs::read_to_string(package("src").join(&file))?;
-        Ok(Source::new(&file, text.replace(NOT_LISTED, "")))
+        let without = |text: String, module: &&str| text.replace(module, "");
+        Ok(Source::new(&file, NOT_LISTED.iter().fold(text, without)))
     };
     MODULES.iter().map(read).collect()
 }

@@ -1,0 +1,3 @@
+pub mod NeverLowers
+pub mod LoneCommit
+pub mod Reached

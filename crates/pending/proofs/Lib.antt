@@ -1,0 +1,2 @@
+pub mod FreshRows
+pub mod Telling

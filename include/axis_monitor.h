@@ -20,7 +20,7 @@
 
 /* A channel as the caller keeps it. Every content stands for some channel; only monitor_read_list makes a fresh one. */
 typedef struct monitor_channel {
-    int32_t data[MONITOR_DATA];    /* the accepted list */
+    int32_t data[MONITOR_DATA];    /* the list in force */
     uint32_t state[MONITOR_STATE]; /* what it keeps from cycle to cycle */
     int32_t pending[MONITOR_DATA]; /* the list asked about; it counts while the state's word PENDING is not 0 */
 } monitor_channel;
@@ -41,12 +41,12 @@ typedef struct monitor_channel {
 #define MONITOR_STATE_F_LEFT 12       /* cycles left of F's time */
 #define MONITOR_STATE_STOP 13         /* MONITOR_FREE, MONITOR_BRAKING, MONITOR_HELD or MONITOR_CANCELLED */
 #define MONITOR_STATE_RANK 14         /* the stop's rank, while braking or held */
-#define MONITOR_STATE_REST 15         /* cycles left while braking; the hold's reference, signed, while held */
+#define MONITOR_STATE_REST 15         /* cycles left while braking, 0 only behind a commit; the hold's reference, signed, while held */
 #define MONITOR_STATE_CAMS 16         /* cam signals, SN1+ in bit 0 */
 #define MONITOR_STATE_NX 17           /* 1 if n<nx is 1; worked out while its function is off too, and left as it is by an unusable cycle */
 #define MONITOR_STATE_NX_RUN 18       /* usable cycles running in which the speed was below nx, not counted past 1,001 */
 /* These six: monitor_cycle leaves them as they are where the inputs are unusable or safe direction is off, and with it off no run and no
-   watch begins; monitor_run_log writes them anew, with the same meaning. */
+   watch begins; monitor_run_log and monitor_commit write them anew, with the same meaning, a commit of a list without safe direction all as 0. */
 #define MONITOR_STATE_POSITIVE_RUN 19     /* usable cycles running in which only positive travel was allowed, not counted past 1,001 */
 #define MONITOR_STATE_POSITIVE_WATCH 20   /* 1 if the watch stands */
 #define MONITOR_STATE_POSITIVE_EXTREME 21 /* the highest position since the watch began, signed; 0 without a watch */

@@ -32,7 +32,7 @@ pub record AskLeft : Type 0 where
 abbrev pub leftByAsk : ℕ → List ℕ → List ℤ → List ℕ → ℕ → AskLeft
 leftByAsk number state′ p′ codes′ at′ = record { number = number; place = at′; state = state′; pending = p′; codes = codes′; channel = λ values. channelFrom values p′ state′ }
 
--- of the words of the state that of the pending list alone is written: how many data it has, none if it is refused; "all else unaltered"
+-- of the words of the state only word 25 is written: how many data the pending list has, 0 if it is refused; "all else unaltered"
 abbrev pub askInto : List ℕ → List ℕ → List ℤ → List ℕ → Reading → Report → AskLeft
 askInto words state p codes r o =
     let read = readList words in

@@ -1,5 +1,6 @@
 // The monitor as a library for a board's program in another language. The caller owns all memory: a channel is its data and
-// its state as two arrays, and every content of them stands for some channel. Logs and kits are a library of their own: in
+// its state as two arrays, and a third for the data of a pending list, which only axis_lists is lent; every content of them stands
+// for some channel. Logs and kits are a library of their own: in
 // one with them, the code of a cycle would stand apart from both of its callers, and a log would run at less than half the speed.
 ghost use mathlib.Core.Path.{_≡_};
 ghost use Rattle.device.specs.Device.{deviceOf};

@@ -38,7 +38,7 @@ behind cycles p = cond (eqb cycles 0) p noList
 abbrev pub afterCycles : ℕ → Channel → State → Channel
 afterCycles n c s = record { list = c .list; state = s; pending = behind n (c .pending) }
 
--- behind one
+-- behind one cycle
 abbrev pub withState : Channel → State → Channel
 withState c s = afterCycles 1 c s
 

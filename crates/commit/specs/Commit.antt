@@ -19,7 +19,7 @@ use Rattle.state.specs.declared.State.{State}
 abbrev pub cutK : ℕ → ℕ → ℕ
 cutK count k = cond (ltb k count) k 0
 
--- "falling counts above the new datum are cut to it": the count of a lowering, by datum 27. A count of 0 is of none, so one that runs is cut to 1 where
+-- "falling counts above the new datum are cut to it": the count of a lowering, by datum 27. A count of 0 means that no delay runs, so one that runs is cut to 1 where
 -- the datum is 0: it too ends in the next usable cycle, and no further commit before that sets it anew
 abbrev pub cutDelay : List ℤ → ℕ → ℕ
 cutDelay d zero = zero

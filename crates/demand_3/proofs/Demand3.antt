@@ -101,7 +101,9 @@ module _ (L : ℕ → MachineData) (S : ℕ → State) (G : ℕ → Given) (comm
             device-off m s
             (H.ended-off L S G commits goes n end m i j f b (H.differing-on L S G commits goes n t) c (omega arith) (a end (omega arith) (omega arith)) e k u);
         differing-on = λ n t. H.differing-on L S G commits goes n t;
-        ended-at-once = λ n k i f s o c h a u. device-braking k s (H.ended-at-once L S G commits goes n k i f o c h a u);
+        ended-at-once = λ n k i f s o c h a u.
+            let b = H.ended-at-once L S G commits goes n k i f o c h a u in
+            (omega (arith, shown-at k s .rank), device-braking k s b);
         ended-off = λ n k m i j f b s o c h a e l u. device-off m s (H.ended-off L S G commits goes n k m i j f b o c h a e l u);
         binds = λ n w l u h m x q. binds L S G commits goes (AtLeast m x) n w (is-true _ u) h q;
         binds-by-order = λ n w l u h m x q. binds L S G commits goes (NoLaxer m x) n w (is-true _ u) h q;

@@ -77,7 +77,8 @@ module _ (L : ℕ → MachineData) (G : ℕ → Given) where
   abbrev pub usableIn : ℕ → Bool
   usableIn n = usableOf (L n) (G n .reading)
 
-  -- the usable cycle at place w, counted back from a usable cycle n at place 0; cycle 0 where there are fewer
+  -- the usable cycle at place w, counted back from a usable cycle n at place 0; cycle 0 where there are fewer: the cycles counted are then the same for every
+  -- greater w
   abbrev pub usableAt : ℕ → ℕ → ℕ
   usableAt n w = getD (usableBefore usableIn (suc n)) w 0
 
@@ -156,10 +157,11 @@ module _ (L : ℕ → MachineData) (S : ℕ → State) (G : ℕ → Given) where
     pub differing-off : (n m i j : ℕ) (f b : MachineData) → m < size → Stands n 10 → Bounds commits n i f →
         Bounds commits (i + numberOf (f .values) 34) j b → j + numberOf (b .values) 32 ≤ m → ActiveFrom n m → Uncleared n m → rankInDevice (device m) ≡ 5
     -- sharper: F is on in n, be it the cycle that starts its count or a later one, and one is active in one cycle, that of F's end or any later one, k: the
-    -- device rank is 4 or 5 in k, and 5 when B's count has ended
+    -- channel's own rank is 4 or 5 in k, and so the device's, and 5 when B's count has ended. A count of F that was started before n, or one of B before F's
+    -- end, is bounded by these with that cycle for n, and by `braking-ends`
     pub differing-on : (n : ℕ) → Stands n 10 → FaultOn n
     pub ended-at-once : (n k i : ℕ) (f : MachineData) → k < size → FaultOn n → Bounds commits n i f → i + numberOf (f .values) 34 ≤ k → ActiveIn k →
-        Uncleared n k → (rankInDevice (device k) ≡ 4) ⊎ (rankInDevice (device k) ≡ 5)
+        Uncleared n k → (4 ≤ rankInWord (channel k)) × ((rankInDevice (device k) ≡ 4) ⊎ (rankInDevice (device k) ≡ 5))
     pub ended-off : (n k m i j : ℕ) (f b : MachineData) → m < size → FaultOn n → Bounds commits n i f → i + numberOf (f .values) 34 ≤ k → ActiveIn k →
         Bounds commits k j b → j + numberOf (b .values) 32 ≤ m → Uncleared n m → rankInDevice (device m) ≡ 5
     -- "Where a usable cycle and the last usable ones before it, as many as datum 27 says, all select X or something stricter, the effective selection in it is

@@ -19,7 +19,7 @@ pub record ShowsOnly (m : MachineData) : Type 0 where
   pub no-external : functionOf (m .values) 4 ≡ false
   pub no-direction : functionOf (m .values) 5 ≡ false
 
--- from a fresh channel on, as long as every cycle is usable, its word has rank 0, whatever the reports and whether F is on
+-- from a fresh channel on, where nothing is committed and as long as every cycle is usable, its word has rank 0, whatever the reports and whether F is on
 abbrev pub KeepsTurning : Type 0
 KeepsTurning =
     (m : MachineData) → ShowsOnly m → (cs : ℕ → Given) (n : ℕ) → ((i : ℕ) → i ≤ n → T (usableOf m (cs i .reading))) →

@@ -34,4 +34,5 @@ refusalPlace (SeEnds place) = place
 refusalPlace (WrongLog place) = place
 -- "words wanted"
 refusalPlace (ShortOutput wanted) = wanted
+-- W7: "8, place 0"
 refusalPlace NothingPending = 0

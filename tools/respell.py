@@ -61,8 +61,8 @@ def snake(part):
 
 def names():
     specs = {p: declared(p) for p in files("crates/*/specs/**/*.antt")}
-    walks = ("/Proof.antt", "/Answers.antt", "/Invariants.antt")
-    proofs = {p: declared(p) for p in files("crates/*/proofs/**/*.antt") if not p.endswith(walks)}
+    of_function = re.compile(r"/proofs/.+/(Proof|Answers|Invariants)\.antt$")
+    proofs = {p: declared(p) for p in files("crates/*/proofs/**/*.antt") if not of_function.search(p)}
     found = {n for names in [*specs.values(), *proofs.values()] for n in names if re.match(r"[a-z]", n)}
     camel = {n: snake(n) for n in found if "-" not in n}
     taken = set(camel.values())
@@ -137,10 +137,11 @@ def main():
         sys.exit("respell: names fall together; nothing was changed")
     for path in files("crates/*/specs/**/*.antt", "crates/*/proofs/**/*.antt", "crates/*/src/**/*.rt"):
         lines = []
-        mark = "--" if path.endswith(".antt") else "//"
+        # A function of src/ keeps its name.
+        here = {n: to for n, to in new.items() if n + "_lem" != to} if path.endswith(".rt") else new
         for line in text(path).split("\n"):
             front = code(line)
-            lines.append(turned(front, new) + quoted(line[len(front):], new))
+            lines.append(turned(front, here) + quoted(line[len(front):], here))
         with open(path, "w", encoding="utf-8") as f:
             f.write("\n".join(lines))
     for path in files("crates/*/must-fail/*.edit"):

@@ -1,4 +1,6 @@
 // Cause 13: F's end brings STOP B only where SBH, SG, SE or cams are active.
+#![tactic(auto)]
+
 ghost use Rattle.std.specs.Prelude.{◌≡◌};
 ghost use Rattle.active.specs.Active.{active, fault_stops};
 

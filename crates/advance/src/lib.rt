@@ -1,5 +1,7 @@
 // Steps 5 and 6 of a usable cycle, and what an unusable one leaves: the state after a cycle and its word, from what judge finds in
 // steps 2 to 4.
+#![tactic(auto)]
+
 ghost use Rattle.std.specs.Prelude.{◌≡◌};
 ghost use Rattle.machine_data.specs.Data.{lent};
 ghost use Rattle.advance.specs.After.{clears_by, next_by, unusable_next, shown_word, advanced_by, advanced_unusable};
@@ -12,7 +14,7 @@ use state::{Given, Kept, State};
 use stop::Stop;
 
 // What a cycle gives without its causes: the state after it, and its word.
-#[derive(Drop)]
+#[derive(Clone, Copy)]
 pub struct Advanced {
     pub state: State,
     pub word: u32,

@@ -31,7 +31,7 @@ use Rattle.listing.specs.Listing.{listed}
 use Rattle.as_before.specs.Lists.{heads69}
 use Rattle.as_before.specs.Rules.{Cause13, Nx, geared, steadied, guarded, unguarded, now, without_w6}
 use Rattle.as_before.specs.Cycle.{watched_under, table_under, rows_under, next_under, word_under}
-use Rattle.as_before.specs.Runs.{running_under, listed_under}
+use Rattle.as_before.specs.Runs.{both_under, running_under, listed_under}
 use Rattle.as_before.specs.Kept.{HeadedKit, Undirected, UndirectedKit}
 use Rattle.as_before.proofs.Short.{undirected}
 use Rattle.as_before.proofs.Cycle.{ways_to, Agree, next_same, word_same, rows_now, next_now, word_now}
@@ -72,7 +72,7 @@ module _ (stops : Cause13) (nx : Nx) where
     along_undirected : (x : Both) (rs : List CycleRecord) → AgreeAlong (geared read_list stops nx guarded) (geared read_list stops nx unguarded) da db x rs
     along_undirected x [] = tt
     along_undirected x (r ∷ rs) =
-        (record { report_a = refl; report_b = refl; a = agree_undirected da ha x.a _; b = agree_undirected db hb x.b _ }, along_undirected _ rs)
+        (record { report_a = refl; report_b = refl; a = agree_undirected da ha x.a _; b = agree_undirected db hb x.b _ }, along_undirected (both_under (geared read_list stops nx guarded) da db x r) rs)
 
   pub running_unguarded : (a b : Channel) → Undirected a.list → Undirected b.list → (out : List ℕ) (rs : List CycleRecord) →
       running_under (geared read_list stops nx guarded) a b out rs ≡ running_under (geared read_list stops nx unguarded) a b out rs

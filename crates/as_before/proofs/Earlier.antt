@@ -18,7 +18,7 @@ use Rattle.kit_bytes.specs.KitBytes.{words_of}
 use Rattle.listing.specs.Listing.{listed}
 use Rattle.as_before.specs.Lists.{heads51, heads67, heads69, read67, read69}
 use Rattle.as_before.specs.Rules.{Cause13, Nx, Guarding, geared, in_every_case, at_once, steadied, guarded, unguarded, before_w6, before_w3, before_w2, document01}
-use Rattle.as_before.specs.Runs.{running_under, listed_under}
+use Rattle.as_before.specs.Runs.{both_under, running_under, listed_under}
 use Rattle.as_before.specs.Kept.{Headed51, Headed, HeadedKit, ActiveAtEnds, ActiveKit, Unsteadied, Undirected}
 use Rattle.as_before.proofs.Lists.{read_67, read_69}
 use Rattle.as_before.proofs.Cycle.{Agree}
@@ -36,7 +36,7 @@ module _ (read : List ℕ → ListRead) (stops : Cause13) (nx : Nx) (guard : Gua
   along_read da db x (r ∷ rs) =
       let same : (m : MachineData) (s : State) (g : Given) → Agree (geared read_list stops nx guard) (geared read stops nx guard) m s g =
       λ m s g. record { usable = refl; ratio = refl; rise = refl; differs = refl; stops = λ u. refl; watched = λ u. refl; strongest = λ u. refl; fresh = λ u. refl; nx = λ u. refl } in
-      (record { report_a = refl; report_b = refl; a = same da x.a _; b = same db x.b _ }, along_read da db _ rs)
+      (record { report_a = refl; report_b = refl; a = same da x.a _; b = same db x.b _ }, along_read da db (both_under (geared read_list stops nx guard) da db x r) rs)
 
   -- a log's run does not ask for it
   running_read : (a b : Channel) (out : List ℕ) (rs : List CycleRecord) → running_under (geared read_list stops nx guard) a b out rs ≡ running_under (geared read stops nx guard) a b out rs

@@ -29,7 +29,6 @@ use Rattle.seven.specs.declared.CycleRecord.{CycleRecord}
 use Rattle.judge.specs.Causes.{rows_of}
 use Rattle.list.specs.declared.ListAnswer as A
 use Rattle.list.specs.Rules.{among}
-use Rattle.list.specs.IsList.{list}
 use Rattle.list.specs.Reading.{read_list}
 use Rattle.channel.specs.declared.Channel.{Channel}
 use Rattle.channel.specs.Cycle.{next}
@@ -40,7 +39,7 @@ use Rattle.listing.specs.Listing.{listed}
 use Rattle.as_before.specs.Lists.{heads51}
 use Rattle.as_before.specs.Rules.{Cause13, Nx, Guarding, usable_by, geared, ungeared, steadied, guarded, now, without_w1, plain, spare51, usable51, next_k51, entry51, report51, differs51}
 use Rattle.as_before.specs.Cycle.{rows_under, next_under, word_under}
-use Rattle.as_before.specs.Runs.{running_under, listed_under}
+use Rattle.as_before.specs.Runs.{both_under, running_under, listed_under}
 use Rattle.as_before.specs.Kept.{Headed51, Headed, HeadedKit}
 use Rattle.as_before.proofs.Lists.{read_51}
 use Rattle.as_before.proofs.Short.{short, undirected}
@@ -182,7 +181,7 @@ module _ (stops : Cause13) (nx : Nx) (guard : Guarding) where
         a = agree_51 da ha offa x.a _ hb.count;
         b = agree_51 db hb offb x.b _ ha.count;
       },
-      along_51 _ rs,
+      along_51 (both_under (geared read_list stops nx guard) da db x r) rs,
     )
 
   -- what an accepted log leaves: both channels and the whole output

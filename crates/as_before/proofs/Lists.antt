@@ -152,8 +152,15 @@ module _ (front more : List Row) (whole : gear_rows ++ nx_rows ++ direction_rows
       headed
     where
       by_word : (x : Word) (held before : ℕ → ListRead) (other : ListRead) → ((n : ℕ) → x ≡ W.Head n → held n ≡ before n) → if_head x held other ≡ if_head x before other
-      by_word x held before other =
-          elim x [ W.Head n ↦ λ h. h n refl | W.Datum k f ↦ λ h. refl | W.Piece b ↦ λ h. refl | W.Position z ↦ λ h. refl | W.Lower b ↦ λ h. refl | W.Upper b ↦ λ h. refl | W.End a ↦ λ h. refl | W.Remark ↦ λ h. refl | W.Other ↦ λ h. refl ]
+      by_word (W.Head n) held before other h = h n refl
+      by_word (W.Datum k f) held before other h = refl
+      by_word (W.Piece b) held before other h = refl
+      by_word (W.Position z) held before other h = refl
+      by_word (W.Lower b) held before other h = refl
+      by_word (W.Upper b) held before other h = refl
+      by_word (W.End a) held before other h = refl
+      by_word W.Remark held before other h = refl
+      by_word W.Other held before other h = refl
 
       headed : (n : ℕ) → word_at s 0 ≡ W.Head n →
           cond (is_head n) (gather n n s 0 1 zeros) (refused_list (WrongWord 0)) ≡ cond (among n heads) (gather_by table n s 0 1 zeros) (refused_list (WrongWord 0))

@@ -25,7 +25,7 @@ use Rattle.kit_bytes.specs.KitBytes.{whole_words, words_of}
 use Rattle.listing.specs.Listing.{Said, refused, by_log, by_lists, said_of, said, text_of, listed}
 use Rattle.as_before.specs.Rules.{Rules, now}
 use Rattle.as_before.specs.Cycle.{next_under, word_under}
-use Rattle.as_before.specs.Runs.{given_under, given_aunder, given_bunder, both_under, last_under, lines_under, running_under, log_under, second_under, first_under, said_under, listed_under}
+use Rattle.as_before.specs.Runs.{given_under, given_a_under, given_b_under, both_under, last_under, lines_under, running_under, log_under, second_under, first_under, said_under, listed_under}
 use Rattle.as_before.proofs.Cycle.{Agree, next_same, word_same, next_now, word_now}
 
 -- ---- rules that agree
@@ -40,8 +40,8 @@ module _ (p q : Rules) where
     pub record AgreeBoth (x : Both) (r : CycleRecord) : Type 0 where
       pub report_a : p.report da x.a.k r.a ≡ q.report da x.a.k r.a
       pub report_b : p.report db x.b.k r.b ≡ q.report db x.b.k r.b
-      pub a : Agree p q da x.a (given_aunder p da db x r)
-      pub b : Agree p q db x.b (given_bunder p da db x r)
+      pub a : Agree p q da x.a (given_a_under p da db x r)
+      pub b : Agree p q db x.b (given_b_under p da db x r)
 
     -- in each cycle of a run
     abbrev pub AgreeAlong : Both → List CycleRecord → Type 0
@@ -49,23 +49,23 @@ module _ (p q : Rules) where
     AgreeAlong x (r ∷ rs) = AgreeBoth x r × AgreeAlong (both_under p da db x r) rs
 
     module _ {x : Both} {r : CycleRecord} (h : AgreeBoth x r) where
-      given_a_lem : given_aunder p da db x r ≡ given_aunder q da db x r
+      given_a_lem : given_a_under p da db x r ≡ given_a_under q da db x r
       given_a_lem = given_same db x.b.k r.a r.b r.acknowledged h.report_b
 
-      given_b_lem : given_bunder p da db x r ≡ given_bunder q da db x r
+      given_b_lem : given_b_under p da db x r ≡ given_b_under q da db x r
       given_b_lem = given_same da x.a.k r.b r.a r.acknowledged h.report_a
 
       both_same : both_under p da db x r ≡ both_under q da db x r
       both_same =
-          let a = next_same p q da x.a (given_aunder p da db x r) h.a ∙ ap (next_under q da x.a) given_a_lem in
-          let b = next_same p q db x.b (given_bunder p da db x r) h.b ∙ ap (next_under q db x.b) given_b_lem in
+          let a = next_same p q da x.a (given_a_under p da db x r) h.a ∙ ap (next_under q da x.a) given_a_lem in
+          let b = next_same p q db x.b (given_b_under p da db x r) h.b ∙ ap (next_under q db x.b) given_b_lem in
           λ i. record { a = a i; b = b i }
 
-      word_a : word_under p da x.a (given_aunder p da db x r) ≡ word_under q da x.a (given_aunder q da db x r)
-      word_a = word_same p q da x.a (given_aunder p da db x r) h.a ∙ ap (word_under q da x.a) given_a_lem
+      word_a : word_under p da x.a (given_a_under p da db x r) ≡ word_under q da x.a (given_a_under q da db x r)
+      word_a = word_same p q da x.a (given_a_under p da db x r) h.a ∙ ap (word_under q da x.a) given_a_lem
 
-      word_b : word_under p db x.b (given_bunder p da db x r) ≡ word_under q db x.b (given_bunder q da db x r)
-      word_b = word_same p q db x.b (given_bunder p da db x r) h.b ∙ ap (word_under q db x.b) given_b_lem
+      word_b : word_under p db x.b (given_b_under p da db x r) ≡ word_under q db x.b (given_b_under q da db x r)
+      word_b = word_same p q db x.b (given_b_under p da db x r) h.b ∙ ap (word_under q db x.b) given_b_lem
 
     -- the states after a run
     last_same : (x : Both) (rs : List CycleRecord) → AgreeAlong x rs → last_under p da db x rs ≡ last_under q da db x rs

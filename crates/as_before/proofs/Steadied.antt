@@ -29,7 +29,7 @@ use Rattle.listing.specs.Listing.{listed}
 use Rattle.as_before.specs.Lists.{heads67}
 use Rattle.as_before.specs.Rules.{Cause13, Guarding, geared, at_once, steadied, guarded, now, without_w3}
 use Rattle.as_before.specs.Cycle.{step_under, rows_under, next_under, word_under}
-use Rattle.as_before.specs.Runs.{running_under, listed_under}
+use Rattle.as_before.specs.Runs.{both_under, running_under, listed_under}
 use Rattle.as_before.specs.Kept.{Headed51, Headed, HeadedKit, Unsteadied, UnsteadiedKit}
 use Rattle.as_before.proofs.Cycle.{Agree, word_same, rows_now, next_now, word_now}
 use Rattle.as_before.proofs.Runs.{AgreeAlong, running_same, listed_same, running_now, listed_now}
@@ -100,7 +100,7 @@ module _ (stops : Cause13) (w : Guarding) where
       AgreeAlong (geared read_list stops steadied w) (geared read_list stops at_once w) da db x rs
   along_unsteadied da db ha hb x [] = tt
   along_unsteadied da db ha hb x (r ∷ rs) =
-      (record { report_a = refl; report_b = refl; a = agree_unsteadied da ha x.a _; b = agree_unsteadied db hb x.b _ }, along_unsteadied da db ha hb _ rs)
+      (record { report_a = refl; report_b = refl; a = agree_unsteadied da ha x.a _; b = agree_unsteadied db hb x.b _ }, along_unsteadied da db ha hb (both_under (geared read_list stops steadied w) da db x r) rs)
 
   pub running_at_once : (a b : Channel) → Unsteadied a.list → Unsteadied b.list → (out : List ℕ) (rs : List CycleRecord) →
       running_under (geared read_list stops steadied w) a b out rs ≡ running_under (geared read_list stops at_once w) a b out rs

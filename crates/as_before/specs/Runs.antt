@@ -28,14 +28,14 @@ module _ (rules : Rules) where
   -- ---- a log
 
   module _ (da db : MachineData) where
-    abbrev pub given_aunder : Both → CycleRecord → Given
-    given_aunder x r = given_under db x.b.k r.a r.b r.acknowledged
+    abbrev pub given_a_under : Both → CycleRecord → Given
+    given_a_under x r = given_under db x.b.k r.a r.b r.acknowledged
 
-    abbrev pub given_bunder : Both → CycleRecord → Given
-    given_bunder x r = given_under da x.a.k r.b r.a r.acknowledged
+    abbrev pub given_b_under : Both → CycleRecord → Given
+    given_b_under x r = given_under da x.a.k r.b r.a r.acknowledged
 
     abbrev pub both_under : Both → CycleRecord → Both
-    both_under x r = record { a = next_under rules da x.a (given_aunder x r); b = next_under rules db x.b (given_bunder x r) }
+    both_under x r = record { a = next_under rules da x.a (given_a_under x r); b = next_under rules db x.b (given_b_under x r) }
 
     -- the states after a run
     unfoldable pub last_under : Both → List CycleRecord → Both
@@ -46,8 +46,8 @@ module _ (rules : Rules) where
     unfoldable pub lines_under : Both → List CycleRecord → List ℕ
     lines_under x [] = []
     lines_under x (r ∷ rs) =
-        let a = word_under rules da x.a (given_aunder x r) in
-        let b = word_under rules db x.b (given_bunder x r) in
+        let a = word_under rules da x.a (given_a_under x r) in
+        let b = word_under rules db x.b (given_b_under x r) in
         a ∷ b ∷ device_of a b ∷ lines_under (both_under x r) rs
 
   -- what an accepted log leaves; its refusals look at no list

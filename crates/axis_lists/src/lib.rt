@@ -1,6 +1,8 @@
-// A list for a running channel, asked about and committed, as a library for a board's program in another language, over the arrays
-// of axis_monitor and one for the data of the pending list. In one with the cycle, the code of a cycle would stand apart from both
-// of its callers.
+// A list for a running channel, asked about and committed, as a library for a board's program in another language, to which
+// axis_lists_c exports it, over the arrays of axis_monitor and one for the data of the pending list. In one with the cycle, the
+// code of a cycle would stand apart from both of its callers.
+#![tactic(auto)]
+
 ghost use Rattle.std.specs.Prelude.{◌≡◌};
 ghost use Rattle.crossing_reports.specs.Reports.{report_from};
 ghost use Rattle.axis_lists.specs.Left.{left_by_ask, ask_into, left_by_commit, commit_into};
@@ -14,8 +16,7 @@ use refusal::Refusal;
 
 // A list asked about: 0, the words used and the fresh causes of a cycle straight behind its commit, and it is pending; or the
 // refusal's number and place, and none is pending.
-#[unsafe(no_mangle)]
-pub extern "C" fn monitor_ask(
+pub fn monitor_ask(
     words: &[u32],
     state: &mut Image,
     asked: &mut Values,
@@ -57,13 +58,7 @@ pub extern "C" fn monitor_ask(
 }
 
 // The pending list taken: 0 and how many data it has; or 8 and place 0 where none is pending, with all as it was.
-#[unsafe(no_mangle)]
-pub extern "C" fn monitor_commit(
-    values: &mut Values,
-    state: &mut Image,
-    asked: &Values,
-    at: &mut usize,
-) -> u32
+pub fn monitor_commit(values: &mut Values, state: &mut Image, asked: &Values, at: &mut usize) -> u32
     ensures { left_by_commit asked.now result values.new state.new at.new ≡ commit_into asked.now values.old state.old }
 {
     let count = image::pending_after(0, state);

@@ -1,4 +1,7 @@
-// Recorded logs and kits as a library for a test desk's program in another language, over the arrays of axis_monitor.
+// Recorded logs and kits as a library for a test desk's program in another language, to which axis_logs_c exports them, over the
+// arrays of axis_monitor.
+#![tactic(auto)]
+
 ghost use Rattle.std.specs.Prelude.{◌≡◌, ◌≤◌, length};
 ghost use Rattle.numerals.specs.Written.{written};
 ghost use Rattle.kit_run.specs.KitRun.{kit_ran};
@@ -11,8 +14,7 @@ use machine_data::Values;
 
 // A log over two channels, whatever data their pending lists have: 0 and the number of cycles, or the refusal's number and place,
 // with the states and the output as they were.
-#[unsafe(no_mangle)]
-pub extern "C" fn monitor_run_log(
+pub fn monitor_run_log(
     values_a: &Values,
     state_a: &mut Image,
     values_b: &Values,
@@ -48,8 +50,7 @@ pub extern "C" fn monitor_run_log(
 }
 
 // The bench's text for a kit: its length; where the buffer has room the text stands at its front.
-#[unsafe(no_mangle)]
-pub extern "C" fn monitor_list_kit(kit: &[u8], out: &mut [u8]) -> usize
+pub fn monitor_list_kit(kit: &[u8], out: &mut [u8]) -> usize
     ensures value { result ≡ length (listed kit.now) }
     ensures out_after { out.new ≡ written 0 (listed kit.now) out.old }
     ensures upper_bound { result ≤ 74880 }
@@ -59,8 +60,7 @@ pub extern "C" fn monitor_list_kit(kit: &[u8], out: &mut [u8]) -> usize
 
 // A kit's words run over two fresh channels: the number of cycles, with their words at the output's front. In `told` 0, or
 // where the kit is refused the refusal's number, its place, and the letter of the part.
-#[unsafe(no_mangle)]
-pub extern "C" fn monitor_run_kit(words: &[u32], out: &mut [u32], told: &mut [u64; 3]) -> usize
+pub fn monitor_run_kit(words: &[u32], out: &mut [u32], told: &mut [u64; 3]) -> usize
     ensures value { result ≡ cycles_of (kit_ran words.now out.old).answer }
     ensures out_after { out.new ≡ (kit_ran words.now out.old).out }
     ensures told_after { told.new ≡ told_of (kit_ran words.now out.old).answer }

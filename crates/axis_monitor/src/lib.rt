@@ -1,7 +1,9 @@
-// The monitor as a library for a board's program in another language. The caller owns all memory: a channel is its data and
-// its state as two arrays, and a third for the data of a pending list, which only axis_lists is lent; every content of them stands
-// for some channel. Logs and kits are a library of their own: in
-// one with them, the code of a cycle would stand apart from both of its callers, and a log would run at less than half the speed.
+// The monitor as a library for a board's program in another language, to which axis_monitor_c exports it. The caller owns all
+// memory: a channel is its data and its state as two arrays, and a third for the data of a pending list, which only axis_lists is
+// lent; every content of them stands for some channel. Logs and kits are a library of their own: in one with them, the code of a
+// cycle would stand apart from both of its callers, and a log would run at less than half the speed.
+#![tactic(auto)]
+
 ghost use Rattle.std.specs.Prelude.{◌≡◌};
 ghost use Rattle.device.specs.Device.{device_of};
 ghost use Rattle.crossing_reports.specs.Reports.{given_from};
@@ -21,16 +23,14 @@ use machine_data::Values;
 use state::{Given, State};
 
 // The number of this interface: it rises where a function, an array or the meaning of a word changes.
-#[unsafe(no_mangle)]
-pub extern "C" fn monitor_interface() -> u32
+pub fn monitor_interface() -> u32
     ensures { result ≡ interface_number }
 {
     7
 }
 
 // A list read into a fresh channel: 0 and the words used, or the refusal's number and place, with the arrays as they were.
-#[unsafe(no_mangle)]
-pub extern "C" fn monitor_read_list(
+pub fn monitor_read_list(
     words: &[u32],
     values: &mut Values,
     state: &mut Image,
@@ -57,8 +57,7 @@ pub extern "C" fn monitor_read_list(
 }
 
 // What the channel reports of a cycle to the other channel.
-#[unsafe(no_mangle)]
-pub extern "C" fn monitor_report(
+pub fn monitor_report(
     values: &Values,
     state: &Image,
     position: i32,
@@ -141,8 +140,7 @@ fn unusable_cycle(
 }
 
 // A cycle: the channel word, with the state after it and the codes that stand.
-#[unsafe(no_mangle)]
-pub extern "C" fn monitor_cycle(
+pub fn monitor_cycle(
     values: &Values,
     state: &mut Image,
     position: i32,
@@ -164,8 +162,7 @@ pub extern "C" fn monitor_cycle(
 }
 
 // The device word of two channel words.
-#[unsafe(no_mangle)]
-pub extern "C" fn monitor_device_word(a: u32, b: u32) -> u32
+pub fn monitor_device_word(a: u32, b: u32) -> u32
     ensures { result ≡ device_of a b }
 {
     device::device_word(a, b)

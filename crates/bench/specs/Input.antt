@@ -4,4 +4,4 @@ use Rattle.bench.specs.declared.Input as I
 
 abbrev pub bytes_of : I.Input → ℕ
 bytes_of (I.TheVariants.Bytes many) = many
-bytes_of I.TheVariants.Failed = 0
+bytes_of (I.TheVariants.Failed _) = 0

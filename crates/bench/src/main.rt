@@ -1,49 +1,53 @@
 // The bench: lists the kit of standard input on standard output. Where it cannot read or write it says so on standard
 // error, and what it could not read it does not list.
+#![tactic(auto)]
+
 ghost use Rattle.std.specs.Prelude.{◌≤◌, length};
 ghost use Rattle.bench.specs.Input.{bytes_of};
 
-use libc::{STDIN_FILENO, STDOUT_FILENO};
+use std::io;
+use std::io::Read;
 
 #[derive(Drop)]
 enum Input {
     // so many were read, up to the end of the input or of the room
     Bytes(usize),
-    Failed,
+    Failed(io::Error),
 }
 
-fn read_all(room: &mut [u8]) -> Input
+fn read_all(input: &mut impl Read, room: &mut [u8]) -> Input
     ensures { bytes_of result ≤ length room.new }
 {
     let mut done = 0usize;
     while done < room.len() {
-        let got = libc::read(STDIN_FILENO, &mut room[done..]);
-        if got < 0 {
-            return Input::Failed;
+        match input.read(&mut room[done..]) {
+            Ok(0) => return Input::Bytes(done),
+            Ok(more) => done += more,
+            Err(error) => return Input::Failed(error),
         }
-        let more = io::count(got, &room[done..]);
-        if more == 0 {
-            return Input::Bytes(done);
-        }
-        done += more;
     }
     Input::Bytes(done)
 }
 
-fn list(kit: &[u8]) {
+// What failed, on standard error. Where that cannot be written either, nothing is left to say it on.
+fn fail(rt: &impl Eprint, what: &str, error: io::Error) {
+    let _ = eprintln!(rt; "bench: {what}: {error}");
+}
+
+fn list(rt: &(impl Print + Eprint), kit: &[u8]) {
     // The longest text there is.
     let mut text = [0u8; 74880];
     let bytes = listing::list_kit(kit, &mut text);
-    if !io::write_all(STDOUT_FILENO, &text[..bytes]) {
-        os::fail(b"bench: standard output");
+    if let Err(error) = rt.write_all(&text[..bytes]) {
+        fail(rt, "standard output", error);
     }
 }
 
-fn main() {
+fn main(rt: HostRuntime) {
     // One word more than the largest kit, so that bytes past 65,536 are noticed.
     let mut room = [0u8; 65540];
-    match read_all(&mut room) {
-        Input::Bytes(many) => list(&room[..many]),
-        Input::Failed => os::fail(b"bench: standard input"),
+    match read_all(&mut rt.stdin(), &mut room) {
+        Input::Bytes(many) => list(&rt, &room[..many]),
+        Input::Failed(error) => fail(&rt, "standard input", error),
     }
 }

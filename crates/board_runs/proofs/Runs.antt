@@ -21,7 +21,7 @@ use Rattle.axis_monitor.specs.Left.{CycleLeft}
 use Rattle.axis_logs.specs.Left.{LogLeft, left_by_log, log_over}
 use Rattle.pending.specs.Pending.{asked_of, commit_of}
 use Rattle.demand_3.specs.Calls as D
-use Rattle.demand_3.specs.Calls.{Side, as_a, as-b, own, Words, words_from, answered_words, Answered, Answers}
+use Rattle.demand_3.specs.Calls.{Side, as_a, as_b, own, Words, words_from, answered_words, Answered, Answers}
 use Rattle.board_runs.specs.Calls.{Arrays, channel_of, BoardCall, given_words, reading_of, ImageAnswered, cycled, ran, asked, took, ImageAnswers, none, then, call_of, calls_of}
 
 -- no refusal has the number of an acceptance
@@ -72,8 +72,8 @@ on_channel {a} (ran {s} {o} {words} {out} number at state-a' state-b' out' e) = 
     go as_a x =
         subst (Answered (channel_of a) (D.logged as_a (channel_of o) words out) (channel_of (after_a a o words out x))) (same_words a o words out x as_a)
         (D.ran (run a o words out x) out' (as_run a o words out x))
-    go as-b x =
-        subst (Answered (channel_of a) (D.logged as-b (channel_of o) words out) (channel_of (after_b o a words out x))) (same_words o a words out x as-b)
+    go as_b x =
+        subst (Answered (channel_of a) (D.logged as_b (channel_of o) words out) (channel_of (after_b o a words out x))) (same_words o a words out x as_b)
         (D.ran (run o a words out x) out' (as_run o a words out x))
 on_channel {a} (asked {words} {position} {inputs} {report} number at state' pending' codes' e) =
     let r = asked_of (channel_of a) words (reading_of position inputs) (report_from report) in

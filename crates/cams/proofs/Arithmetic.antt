@@ -1,6 +1,6 @@
 -- W5: "One proof, for any edge, tolerance, position and kept bit": what is reckoned from the two comparisons and the bit kept is
 -- the signal of step 6. Assumes nothing.
-use Prim.Native.Nat.{ℕ, zero, suc, ◌+◌, ◌*◌, ◌-◌, ◌/◌, ◌%◌, ◌^◌, ◌≤◌, ◌<◌}
+use Prim.Native.Nat.{ℕ, zero, suc, ◌*◌, ◌-◌, ◌/◌, ◌%◌, ◌^◌, ◌≤◌, ◌<◌}
 use mathlib.Core.Bool.{Bool, true, false, cond}
 use mathlib.Core.Path.{◌≡◌, refl}
 use native.Mathlib.Omega.{arith}
@@ -19,12 +19,9 @@ module _ (w : ℕ) (kept : Bool) where
   abbrev held : Bool → ℕ
   held under = (1 - flag under) * (flag kept * w)
 
-  pub held_small : (under : Bool) → held under ≤ w
+  held_small : (under : Bool) → held under ≤ w
   held_small true = omega arith
   held_small false = omega (arith, times_flag kept w)
-
-  pub filled_small : (over under : Bool) → flag over * (w - held under) ≤ w
-  filled_small over under = omega (arith, times_flag over (w - held under))
 
   -- of the comparisons as they come out
   by_tests : (over under : Bool) → reckoned w (flag over) (flag under) (flag kept * w) ≡ w * flag (cond over true (cond under false kept))
@@ -35,9 +32,6 @@ module _ (w : ℕ) (kept : Bool) where
       go : (k : Bool) → reckoned w 0 0 (flag k * w) ≡ w * flag k
       go true = omega arith
       go false = omega arith
-
-  pub reckoned_small : (over under : Bool) → reckoned w (flag over) (flag under) (flag kept * w) ≤ w
-  reckoned_small over under = rw (by_tests over under) (omega (arith, times_flag (cond over true (cond under false kept)) w))
 
   pub by_arithmetic : (edge tolerance position : ℤ) →
       reckoned w (flag (lt_z (edge +ℤ tolerance) position)) (flag (lt_z position edge)) (flag kept * w) ≡ w * flag (signal_of edge tolerance position kept)

@@ -1,51 +1,16 @@
 -- Positions counted from the lowest number of 32 bits, and the comparison with an edge that is made with them. Assumes nothing.
-use Prim.Native.Nat.{ℕ, suc, ◌+◌, ◌*◌, ◌-◌, ◌≤◌, ◌<◌}
+use Prim.Native.Nat.{ℕ, suc, ◌+◌, ◌*◌, ◌-◌, ◌<◌}
 use mathlib.Core.Bool.{Bool, true, false, cond}
 use mathlib.Core.Path.{◌≡◌, refl, sym, ◌∙◌, ap}
 use native.Mathlib.Omega.{arith}
 use borrow.Author.Tests.{ltb-true, ltb-false, leb-true, leb-false, lt-ltb, le-ltb}
-use lib.Dec.{T, ltb, leb}
-use lib.IntN.{ℤ, pos, negsuc, ◌+ℤ◌, nat_abs}
-use lib.Signed.{mag, lt_z, non_neg}
-use mir.Facts.{to_z-of_z, sfits_widen}
-use mir.Syntax.{w32, w64}
-use mir.Val.{Fits, SFits, to_z, of_z, bool_byte}
+use lib.Dec.{ltb, leb}
+use lib.IntN.{ℤ, pos, negsuc, ◌+ℤ◌}
+use lib.Signed.{mag, lt_z}
+use mir.Syntax.{w32}
+use mir.Val.{SFits, bool_byte}
 use Rattle.bits.specs.Bits.{flag}
 use Rattle.cams.specs.Lowest.{from_lowest}
-
-raised : (z : ℤ) → mag z < 2147483648 → z +ℤ pos 2147483648 ≡ pos (from_lowest z)
-raised (pos n) h = ap pos (omega arith)
-raised (negsuc n) h = simp (le-ltb 2147483648 (suc n) h) (ap pos (omega arith))
-
-below_all : (z : ℤ) → mag z < 2147483648 → from_lowest z < 4294967296
-below_all (pos n) h = omega arith
-below_all (negsuc n) h = omega arith
-
--- what `from_lowest` reckons
-module _ {z : ℤ} (f : SFits w32 z) where
-  abbrev wide : ℤ
-  wide = to_z w64 (of_z w64 (to_z w32 (of_z w32 z)))
-
-  abbrev sum : ℤ
-  sum = to_z w64 (of_z w64 (wide +ℤ pos 2147483648))
-
-  pub wide_fits : SFits w64 (to_z w32 (of_z w32 z))
-  wide_fits = simp (to_z-of_z f) (sfits_widen tt f)
-
-  wide_is : wide ≡ z
-  wide_is = to_z-of_z wide_fits ∙ to_z-of_z f
-
-  pub sum_fits : SFits w64 (wide +ℤ pos 2147483648)
-  sum_fits = rw (wide_is, raised z f.sfits) (record { sfits = omega (arith, below_all z f.sfits) })
-
-  sum_is : sum ≡ pos (from_lowest z)
-  sum_is = rw (to_z-of_z sum_fits, wide_is) (raised z f.sfits)
-
-  pub unsigned : T (non_neg sum) × Fits w32 (nat_abs sum)
-  unsigned = rw sum_is (tt, record { fits = below_all z f.sfits })
-
-  pub counted : nat_abs sum ≡ from_lowest z
-  counted = ap nat_abs sum_is
 
 -- two tests that say the same
 same_test : (a b c d : ℕ) → (a < b → c < d) → (c < d → a < b) → ltb a b ≡ ltb c d
@@ -82,27 +47,6 @@ module _ (p t : ℕ) where
 
   abbrev reach : ℕ
   reach = (p - t * enough) * enough
-
-  pub tolerance_small : t * enough ≤ t
-  tolerance_small = go (leb t p)
-    where
-      go : (s : Bool) → t * bool_byte s ≤ t
-      go true = omega arith
-      go false = omega arith
-
-  pub tolerance_in : t * enough ≤ p
-  tolerance_in = go (leb t p) refl
-    where
-      go : (s : Bool) → leb t p ≡ s → t * bool_byte s ≤ p
-      go true e = omega (arith, leb-true t p e)
-      go false e = omega arith
-
-  pub reach_small : reach ≤ p
-  reach_small = go (leb t p)
-    where
-      go : (s : Bool) → (p - t * bool_byte s) * bool_byte s ≤ p
-      go true = omega arith
-      go false = omega arith
 
   below_reach : (e : ℕ) → ltb e reach ≡ ltb (e + t) p
   below_reach e = go (leb t p) refl

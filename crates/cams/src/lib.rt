@@ -1,5 +1,7 @@
 // Step 6 of a cycle: the cam signals. A cam takes the same way whatever the position is: its two comparisons are 0 or 1, and its
 // signal is reckoned from them and the bit that is kept.
+#![tactic(auto)]
+
 ghost use Rattle.std.specs.Prelude.{◌≡◌, ◌*◌, ◌%◌, ◌^◌, pos, ◌+ℤ◌};
 ghost use Rattle.std.specs.Int.Signed.{lt_z};
 ghost use Rattle.bits.specs.Bits.{bit_of, flag};

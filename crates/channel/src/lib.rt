@@ -1,4 +1,6 @@
 // One cycle of a channel: whether it can be used, and then steps 2 to 6 by judge and advance.
+#![tactic(auto)]
+
 ghost use Rattle.std.specs.Prelude.{◌≡◌};
 ghost use Rattle.machine_data.specs.Data.{lent};
 ghost use Rattle.channel.specs.Cycle.{no_list, with_list, fresh_channel, behind, after_cycles};
@@ -12,7 +14,7 @@ use ranges::DATA;
 use state::{Given, State};
 
 // A channel: the list in force, its state, and the pending list, which was asked about and may be committed; one of no data is none.
-#[derive(Drop)]
+#[derive(Clone, Copy)]
 pub struct Channel {
     pub list: MachineData,
     pub state: State,
@@ -20,7 +22,7 @@ pub struct Channel {
 }
 
 // What a cycle gives beside its data: the state after it, its word and its causes.
-#[derive(Drop)]
+#[derive(Clone, Copy)]
 pub struct Cycled {
     pub state: State,
     pub word: u32,
@@ -28,7 +30,7 @@ pub struct Cycled {
 }
 
 // What a cycle gives: the channel after it, its word and its causes.
-#[derive(Drop)]
+#[derive(Clone, Copy)]
 pub struct Outcome {
     pub channel: Channel,
     pub word: u32,

@@ -1,1 +1,2 @@
 // A channel as data and the words of its state: which one they stand for. Theorems, and no function.
+#![tactic(auto)]

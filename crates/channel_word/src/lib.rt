@@ -1,4 +1,6 @@
 // The channel word.
+#![tactic(auto)]
+
 ghost use Rattle.std.specs.Prelude.{◌≡◌};
 ghost use Rattle.bits.specs.Bits.{flag};
 ghost use Rattle.selection.specs.Selection.{is_effective};
@@ -65,7 +67,7 @@ fn shown_nx(values: &Values, nx: bool) -> bool
 }
 
 // The parts of a word, as numbers.
-#[derive(Drop)]
+#[derive(Clone, Copy)]
 struct WordParts {
     effective: u8,
     cancelled: u8,

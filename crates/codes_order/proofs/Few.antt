@@ -27,6 +27,8 @@ FirstApart (c ∷ []) = ⊥
 FirstApart (c ∷ x ∷ rows) = c.stands && x.stands ≡ false
 
 pub two_exclude : (rows : List Cause) → FirstApart rows → length (in_order rows) < length rows
+two_exclude [] e = elim e [ ]
+two_exclude (c ∷ []) e = elim e [ ]
 two_exclude (c ∷ x ∷ rows) e = omega (arith, many_more c (x ∷ rows), many_more x rows, rows_most rows, one_of_two c.stands x.stands e)
 
 -- ---- "each code once"

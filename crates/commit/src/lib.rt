@@ -1,4 +1,6 @@
 // What a commit of another list makes of a channel's state.
+#![tactic(auto)]
+
 ghost use Rattle.std.specs.Prelude.{◌≡◌, min};
 ghost use Rattle.machine_data.specs.Data.{lent};
 ghost use Rattle.commit.specs.Commit.{cut_k, cut_delay, cut_choice, cut_fault, cut_stop, ended_directions, committed};

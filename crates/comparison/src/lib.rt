@@ -1,4 +1,6 @@
 // The crosswise comparison of the channels, causes 10 and 11: what differs. Cause 12 stands in report; F, which they set, in fault.
+#![tactic(auto)]
+
 ghost use Rattle.std.specs.Prelude.{◌≡◌};
 ghost use Rattle.comparison.specs.Comparison.{position_differs, run_of, inputs_differ};
 

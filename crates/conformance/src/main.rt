@@ -1,45 +1,86 @@
 // Runs the conformance kits: for each kit file that the arguments name, a line with its name and then its listing.
-use libc::STDOUT_FILENO;
+#![tactic(auto)]
 
-fn list_kit(fd: i32) {
+ghost use Rattle.std.specs.Prelude.{◌≤◌, length};
+
+use std::env::{Env, FillError};
+use std::fs::Files;
+use std::io::Read;
+use std::{fs, str};
+
+// On standard output. What cannot be written is left out, and the next that can be follows.
+fn put(rt: &impl Print, bytes: &[u8]) {
+    let _ = rt.write_all(bytes);
+}
+
+// How many bytes were read, up to the end of the file or of the room, or to where it could not be read.
+fn read_full(file: &mut impl Read, room: &mut [u8]) -> usize
+    ensures { result ≤ length room.new }
+{
+    let mut done = 0usize;
+    while done < room.len() {
+        match file.read(&mut room[done..]) {
+            Ok(0) | Err(_) => return done,
+            Ok(more) => done += more,
+        }
+    }
+    done
+}
+
+fn list_kit(rt: &impl Print, file: &mut impl Read) {
     let mut kit = [0u8; 65540];
-    let many = io::read_full(fd, &mut kit);
+    let many = read_full(file, &mut kit);
     let mut text = [0u8; 74880];
     let bytes = listing::list_kit(&kit[..many], &mut text);
-    io::write_all(STDOUT_FILENO, &text[..bytes]);
+    put(rt, &text[..bytes]);
 }
 
 // The file's name, without the `.kit` at its end.
-fn put_name(path: &[u8]) {
+fn put_name(rt: &impl Print, path: &[u8]) {
     if path.len() > 4 {
         let end = path.len() - 4;
-        io::write_all(STDOUT_FILENO, &path[..end]);
+        put(rt, &path[..end]);
     }
-    io::write_all(STDOUT_FILENO, b"\n");
+    put(rt, b"\n");
 }
 
-fn list_file(path: &[u8]) {
-    let fd = os::open_read(path);
-    if fd < 0 {
-        os::fail(path);
-        return;
+fn list_file(rt: &(impl Files + Print + Eprint), path: &str) {
+    match fs::open(rt, path) {
+        Ok(mut file) => {
+            put_name(rt, path.as_bytes());
+            list_kit(rt, &mut file);
+        }
+        Err(error) => {
+            let _ = eprintln!(rt; "{path}: {error}");
+        }
     }
-    put_name(path);
-    list_kit(fd);
-    libc::close(fd);
 }
 
-fn list_argument(i: usize) {
-    let mut path = io::buffer();
-    let n = os::arg(i, &mut path);
-    list_file(&path[..n]);
+fn list_path(rt: &(impl Files + Print + Eprint), path: &[u8]) {
+    match str::from_utf8(path) {
+        Ok(path) => list_file(rt, path),
+        Err(error) => {
+            let _ = eprintln!(rt; "a name that is no text: {error}");
+        }
+    }
 }
 
-fn main() {
-    let many = os::arg_count();
-    let mut i = 1usize;
-    while i < many {
-        list_argument(i);
-        i += 1;
+// False where there is no argument i.
+fn list_argument(rt: &(impl Env + Files + Print + Eprint), i: usize) -> bool {
+    let mut path = [0u8; 4096];
+    match rt.arg(i, &mut path) {
+        Ok(n) => list_path(rt, &path[..n]),
+        // No file has a name that long, nor an empty one.
+        Err(FillError::TooLong) => list_file(rt, ""),
+        Err(FillError::NotPresent) => return false,
+    }
+    true
+}
+
+fn main(rt: HostRuntime) {
+    for i in 1..usize::MAX {
+        if !list_argument(&rt, i) {
+            break;
+        }
     }
 }

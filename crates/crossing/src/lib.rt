@@ -1,4 +1,6 @@
 // How numbers, and yes and no, cross to a program in another language and back: as words of 32 bits.
+#![tactic(auto)]
+
 ghost use Rattle.std.specs.Prelude.{◌≡◌, ◌<◌};
 ghost use Rattle.crossing.specs.Words.{signed_of, unsigned_of, yes_from, yes_word};
 

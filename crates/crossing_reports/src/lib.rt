@@ -1,4 +1,6 @@
 // How a report, and what a channel is given in a cycle, cross to a program in another language and back.
+#![tactic(auto)]
+
 ghost use Rattle.std.specs.Prelude.{◌≡◌};
 ghost use Rattle.crossing_reports.specs.Reports.{report_words, ComesBack, given_from};
 

@@ -1,6 +1,6 @@
 -- A datum by what was read of its words, its units by what it is, and its value by both. Assumes nothing.
 use mathlib.Core.Path.{◌≡◌, refl, sym, ap, ◌∙◌, subst}
-use mathlib.Core.List.{List, [], ◌∷◌}
+use mathlib.Core.List.{List}
 use mathlib.Core.Bool.{Bool, true, false, cond}
 use Prim.Native.Nat.{ℕ, zero, suc, ◌+◌, ◌*◌, ◌^◌, ◌≤◌, ◌<◌}
 use native.Mathlib.Omega.{arith}
@@ -8,8 +8,6 @@ use lib.ListN.{length}
 use lib.IntN.{ℤ}
 use lib.Dec.{eqb}
 use lib.Ieee.{Float}
-use denote.Enum.Declared.{tag_of}
-use types.Run.{OneOf}
 use borrow.Author.Tests.{eq-eqb, ne_eqb}
 use Rattle.refusal.specs.declared.Refusal.TheVariants.{WrongWord, OpenDatum, OutOfRange}
 use Rattle.laws.proofs.Never.{never}
@@ -17,7 +15,6 @@ use Rattle.words.specs.declared.Word.{Word}
 use Rattle.words.specs.declared.Word.TheVariants as W
 use Rattle.words.specs.Words.{word_at}
 use Rattle.words.specs.Cases.{if_datum}
-use Rattle.words.specs.contracts.Word.{the_type}
 use Rattle.words.proofs.Cases.{no_datum, there}
 use Rattle.whole.specs.declared.Whole as H
 use Rattle.whole.specs.Whole.{whole_of}
@@ -81,7 +78,7 @@ module _ (s : List ℕ) (k at : ℕ) where
   by_number : ℕ → ℕ → R.DatumRead
   by_number n form = cond (eqb n k) (form_at form s (at + 1)) (R.TheVariants.Bad at)
 
-  pub no_datum_word : {x : Word} → x ≡ word_at s at → OneOf (0 ∷ 2 ∷ 3 ∷ 4 ∷ 5 ∷ 6 ∷ 7 ∷ 8 ∷ []) (tag_of the_type x) → R.TheVariants.Bad at ≡ datum_at s k at
+  pub no_datum_word : {x : Word} → x ≡ word_at s at → ((n form : ℕ) → x ≡ W.Datum n form → ⊥) → R.TheVariants.Bad at ≡ datum_at s k at
   unfolding datum_at by_number
   no_datum_word {x} e h = no_datum x h by_number (R.TheVariants.Bad at) ∙ ap (λ (y : Word). if_datum y by_number (R.TheVariants.Bad at)) e
 
@@ -139,7 +136,7 @@ module _ (s : List ℕ) (at : ℕ) where
   behind_by : ℕ → ℕ → ℕ
   behind_by n form = at + 1 + form_pieces form
 
-  pub no_datum_behind : {x : Word} → x ≡ word_at s at → OneOf (0 ∷ 2 ∷ 3 ∷ 4 ∷ 5 ∷ 6 ∷ 7 ∷ 8 ∷ []) (tag_of the_type x) → at ≡ behind_of s at
+  pub no_datum_behind : {x : Word} → x ≡ word_at s at → ((n form : ℕ) → x ≡ W.Datum n form → ⊥) → at ≡ behind_of s at
   unfolding behind_of behind_by
   no_datum_behind {x} e h = no_datum x h behind_by at ∙ ap (λ (y : Word). if_datum y behind_by at) e
 

@@ -1,19 +1,16 @@
 -- Pieces joined: one more, the first that is none, and how large what is joined can be. Assumes nothing.
 use mathlib.Core.Path.{◌≡◌, refl, sym, ap, ◌∙◌, subst}
-use mathlib.Core.List.{List, [], ◌∷◌}
+use mathlib.Core.List.{List}
 use Prim.Native.Nat.{ℕ, zero, suc, ◌+◌, ◌-◌, ◌*◌, ◌^◌, ◌≤◌, ◌<◌, max}
 use native.Mathlib.Nat.{le_trans, le_of_eq, lt_of_lt_of_le, mul_assoc, mul-le-mul_right}
 use native.Mathlib.Omega.{arith}
 use lib.ListN.{length}
 use lib.Pow.{pow-add, pow_mono}
-use denote.Enum.Declared.{tag_of}
-use types.Run.{OneOf}
 use Rattle.laws.proofs.Never.{never}
 use Rattle.words.specs.declared.Word.{Word}
 use Rattle.words.specs.declared.Word.TheVariants.{Piece}
 use Rattle.words.specs.Words.{word_at}
 use Rattle.words.specs.Cases.{if_piece}
-use Rattle.words.specs.contracts.Word.{the_type}
 use Rattle.words.proofs.Cases.{no_piece, is_piece, there}
 use Rattle.words.proofs.IsWord.{read_at, piece_small}
 use Rattle.datum.specs.Datum.{pieces_at}
@@ -25,12 +22,14 @@ piece_there s at h = there s at (λ e. never (cc))
 module _ (s : List ℕ) (at bits : ℕ) where
   pub one_more : (n : ℕ) {b : ℕ} → 0 < n → word_at s at ≡ Piece b → pieces_at s at n bits ≡ pieces_at s (at + 1) (n - 1) (bits * 65536 + b)
   unfolding pieces_at
+  one_more zero {b = b} p h = elim p [ ]
   one_more (suc n) {b} p h =
       ap (λ (x : Word). if_piece x (λ b. pieces_at s (at + 1) n (bits * 65536 + b)) (P.TheVariants.Bad at)) h
       ∙ ap (λ (m : ℕ). pieces_at s (at + 1) m (bits * 65536 + b)) {x = n} {y = suc n - 1} (omega arith)
 
-  pub bad_here : (n : ℕ) {x : Word} → 0 < n → x ≡ word_at s at → OneOf (0 ∷ 1 ∷ 3 ∷ 4 ∷ 5 ∷ 6 ∷ 7 ∷ 8 ∷ []) (tag_of the_type x) → P.TheVariants.Bad at ≡ pieces_at s at n bits
+  pub bad_here : (n : ℕ) {x : Word} → 0 < n → x ≡ word_at s at → ((b : ℕ) → x ≡ Piece b → ⊥) → P.TheVariants.Bad at ≡ pieces_at s at n bits
   unfolding pieces_at
+  bad_here zero {x = x} p e h = elim p [ ]
   bad_here (suc n) {x} p e h =
       no_piece x h (λ b. pieces_at s (at + 1) n (bits * 65536 + b)) (P.TheVariants.Bad at)
       ∙ ap (λ (y : Word). if_piece y (λ b. pieces_at s (at + 1) n (bits * 65536 + b)) (P.TheVariants.Bad at)) e

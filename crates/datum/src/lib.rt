@@ -1,4 +1,6 @@
 // A datum of a list: its words in one of the forms, and the whole units that it stands for, within its range.
+#![tactic(auto)]
+
 ghost use Rattle.std.specs.Prelude.{◌≡◌, ◌≤◌, ◌<◌, ◌*◌, ◌^◌};
 ghost use Rattle.datum.specs.Datum.{pieces_at, behind_of, form_at, form_pieces, in_form, datum_at, units_of, value_at};
 
@@ -7,7 +9,7 @@ use whole::Whole;
 use words::Word;
 
 // A datum as it arrives.
-#[derive(Drop)]
+#[derive(Clone, Copy)]
 pub enum Datum {
     Whole(i32),
     Single(f32),
@@ -16,28 +18,28 @@ pub enum Datum {
 }
 
 // Pieces joined to one number, or the place of the first word that is none.
-#[derive(Drop)]
+#[derive(Clone, Copy)]
 pub enum Pieces {
     Bits(u64),
     Bad(usize),
 }
 
 // A datum and the place behind it, or the place of the first word that is missing or wrong.
-#[derive(Drop)]
+#[derive(Clone, Copy)]
 pub enum DatumRead {
     Datum(Datum, usize),
     Bad(usize),
 }
 
 // The whole units of a datum, or why it has none.
-#[derive(Drop)]
+#[derive(Clone, Copy)]
 pub enum Units {
     Are(i32),
     Refused(Refusal),
 }
 
 // The value of a datum and the place behind it, or its first fault.
-#[derive(Drop)]
+#[derive(Clone, Copy)]
 pub enum DatumAnswer {
     Value(i32, usize),
     Refused(Refusal),

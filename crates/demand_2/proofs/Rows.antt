@@ -29,6 +29,7 @@ not_fresh c h = go c.stands refl
 
 pub none_fresh : (rows : List Cause) → fresh_of rows ≡ false → NoneFresh rows
 unfolding fresh_of
+none_fresh [] e c m h = elim m [ ]
 none_fresh (x ∷ xs) e c (Memᴰ.head q) h =
     ap (λ (r : Cause). r.code) q ∙ stale x (neither (is_fresh x) (fresh_of xs) e).0 (sym (ap (λ (r : Cause). r.stands) q) ∙ h)
 none_fresh (x ∷ xs) e c (Memᴰ.tail m) h = none_fresh xs (neither (is_fresh x) (fresh_of xs) e).1 c m h

@@ -11,6 +11,8 @@ use Rattle.channel.specs.Cycle.{no_list}
 use Rattle.logs.specs.Run.{Ran}
 use Rattle.single.specs.Single.{single_of}
 use Rattle.refusal.specs.declared.Refusal.TheVariants.{NothingPending}
+use Rattle.single.specs.declared.SingleOutcome.{SingleOutcome}
+use Rattle.pending.specs.declared.Asked.{Asked}
 use Rattle.pending.specs.declared.CommitRun.{CommitRun}
 use Rattle.pending.specs.declared.CommitAnswer.TheVariants.{Taken, Refused}
 use Rattle.pending.specs.Pending.{taking}
@@ -24,12 +26,13 @@ use Rattle.demand_3.proofs.Logs.{Leads, ran_leads}
 call_leads : {c c' : Channel} {x : Call} {ws : List Words} → Answered c x c' ws → Leads c (events_in c.pending x) ws (pending_behind c.pending x) c'
 unfolding cycles_of as_cycles
 call_leads {c} (cycled {g} {other} r e) =
-    rw e (record { pending = refl; trace = step (record { word_is = refl; over = over_first (single_of c g other).word other }) done })
+    rw (ap (λ (x : SingleOutcome). x.channel) e, ap (λ (x : SingleOutcome). x.word) e, ap (λ (x : SingleOutcome). x.device) e)
+    (record { pending = refl; trace = step (record { word_is = refl; over = over_first (single_of c g other).word other }) done })
 call_leads {c} (ran {s} {o} {words} {out} r out' e) =
     rw (ap (λ (x : Ran). x.answer) e, ap (λ (x : Ran). x.out) e, ap (λ (x : Ran). x.a) e, ap (λ (x : Ran). x.b) e)
     (rw (same_answer o o (own s c o) (own s o c) words out) (ran_leads s c o words out))
-call_leads {c} (asked a e) = rw e (record { pending = refl; trace = done })
-call_leads {c} (took a e) = rw e (go (eqb c.pending.count 0))
+call_leads {c} (asked a e) = rw (ap (λ (x : Asked). x.channel) e) (record { pending = refl; trace = done })
+call_leads {c} (took a e) = rw (ap (λ (x : CommitRun). x.channel) e) (go (eqb c.pending.count 0))
   where
     go : (none : Bool) → Leads c (cond none [] (commit c.pending ∷ [])) [] (cond none c.pending no_list)
         (cond {A = CommitRun} none (record { answer = Refused NothingPending; channel = c }) (record { answer = Taken; channel = taking c c.pending })

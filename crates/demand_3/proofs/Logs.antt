@@ -18,15 +18,16 @@ use Rattle.channel.specs.Cycle.{behind, next, with_state}
 use Rattle.channel.specs.Word.{word}
 use Rattle.refusal.specs.declared.Refusal.TheVariants.{WrongLog, ShortOutput}
 use Rattle.logs.specs.Run.{device_cycle, last_of, lines_of, both_of, Ran, refusing, running, by_records, ran_of}
-use Rattle.demand_3.specs.Calls.{Side, as_a, as-b, own, Words, words_at, words_from, answered_words}
+use Rattle.report.specs.Report.{next_k}
+use Rattle.demand_3.specs.Calls.{Side, as_a, as_b, own, Words, words_at, words_from, answered_words}
 use Rattle.demand_3.specs.History.{given_of, givens_of, records_run, Event, as_cycles}
 use Rattle.demand_3.proofs.OfDevice.{Over, over_first, over_second}
 use Rattle.demand_3.proofs.Cycles.{k_next}
 use Rattle.demand_3.proofs.Traces.{Trace, done, step}
 
 abbrev other : Side → Side
-other as_a = as-b
-other as-b = as_a
+other as_a = as_b
+other as_b = as_a
 
 -- what a record gives a channel, and makes of it
 abbrev given_in : Side → Channel → Channel → CycleRecord → Given
@@ -53,28 +54,28 @@ line s v w out = own s v w ∷ own s w v ∷ device_of (own s v w) (own s w v) �
 
 line_over : (s : Side) (v w : ℕ) → Over v (device_of (own s v w) (own s w v))
 line_over as_a v w = over_first v w
-line_over as-b v w = over_second w v
+line_over as_b v w = over_second w v
 
 lines_turn : (s : Side) (c o : Channel) (r : CycleRecord) (rs : List CycleRecord) →
     lines s c o (r ∷ rs) ≡ line s (word_in s c o r) (word_in (other s) o c r) (lines s (after s c o r) (after (other s) o c r) rs)
 unfolding lines_of device_cycle
 lines_turn as_a c o r rs = refl
-lines_turn as-b c o r rs = refl
+lines_turn as_b c o r rs = refl
 
 last_turn : (s : Side) (c o : Channel) (r : CycleRecord) (rs : List CycleRecord) → last s c o (r ∷ rs) ≡ last s (after s c o r) (after (other s) o c r) rs
 unfolding last_of device_cycle
 last_turn as_a c o r rs = refl
-last_turn as-b c o r rs = refl
+last_turn as_b c o r rs = refl
 
 last_none : (s : Side) (c o : Channel) → last s c o [] ≡ c.state
 unfolding last_of
 last_none as_a c o = refl
-last_none as-b c o = refl
+last_none as_b c o = refl
 
 -- the words of a line, and of those behind it
 first_words : (s : Side) (v w : ℕ) (out : List ℕ) → words_at s (line s v w out) 0 ≡ record { channel = v; device = device_of (own s v w) (own s w v) }
 first_words as_a v w out = refl
-first_words as-b v w out = refl
+first_words as_b v w out = refl
 
 later_words : (s : Side) (a b c : ℕ) (out : List ℕ) (i n : ℕ) → words_from s (a ∷ b ∷ c ∷ out) (suc i) n ≡ words_from s out i n
 unfolding words_from
@@ -109,7 +110,7 @@ log_trace s c o (r ∷ rs) rest =
 length-givens : (s : Side) (m : MachineData) (k : ℕ) (rs : List CycleRecord) → length (givens_of s m k rs) ≡ length rs
 unfolding givens_of
 length-givens s m k [] = refl
-length-givens s m k (r ∷ rs) = ap suc (length-givens s m _ rs)
+length-givens s m k (r ∷ rs) = ap suc (length-givens s m (next_k m.count k) rs)
 
 -- a channel c becomes c' over the events es, in whose cycles the words ws are given, and p is then pending
 pub record Leads (c : Channel) (es : List Event) (ws : List Words) (p : MachineData) (c' : Channel) : Type 0 where
@@ -123,7 +124,7 @@ CyclesLead c gs ws c' = Leads c (as_cycles gs) ws (behind (length gs) c.pending)
 refused_leads : (s : Side) (c o : Channel) → CyclesLead c [] [] (own s (own s c o) (own s o c))
 unfolding as_cycles
 refused_leads as_a c o = record { pending = refl; trace = done }
-refused_leads as-b c o = record { pending = refl; trace = done }
+refused_leads as_b c o = record { pending = refl; trace = done }
 
 running_leads : (s : Side) (c o : Channel) (out : List ℕ) (rs : List CycleRecord) →
     let x = running (own s c o) (own s o c) out rs in
@@ -134,7 +135,7 @@ running_leads s c o out rs = go s (ap (λ n. behind n c.pending) (sym (length-gi
         let x = running (own s c o) (own s o c) out rs in
         CyclesLead c (givens_of s o.list o.state.k rs) (words_from s x.out 0 (length rs)) (own s x.a x.b)
     go as_a e = record { pending = e; trace = log_trace as_a c o rs (drop (3 * length rs) out) }
-    go as-b e = record { pending = e; trace = log_trace as-b c o rs (drop (3 * length rs) out) }
+    go as_b e = record { pending = e; trace = log_trace as_b c o rs (drop (3 * length rs) out) }
 
 -- a log that leaves x
 abbrev pub LogLeads : Side → Channel → Channel → LogRead → Ran → Type 0

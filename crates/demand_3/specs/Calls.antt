@@ -17,7 +17,7 @@ use Rattle.pending.specs.Pending.{asked_of, commit_of}
 
 -- "with the working channel as A or B"
 pub data Side : Type 0 where
-  as_a as-b : Side
+  as_a as_b : Side
 
 -- "a single cycle, then the device word of its channel word and the other's (position, input word, acknowledgement; the report and
 -- the other channel's word are anything at all)"; "a log, accepted, empty or refused, with the working channel as A or B beside any
@@ -32,7 +32,7 @@ pub data Call : Type 0 where
 -- of what A has and what B has, the working channel's: `own s a b`; the other's is `own s b a`
 abbrev pub own : {X : Type 0} → Side → X → X → X
 own as_a a b = a
-own as-b a b = b
+own as_b a b = b
 
 -- ---- what a call gives
 

@@ -1,4 +1,6 @@
 // The device word of two channel words.
+#![tactic(auto)]
+
 ghost use Rattle.std.specs.Prelude.{◌≡◌, max};
 ghost use Rattle.device.specs.Device.{word_rank, device_rank, device_of};
 

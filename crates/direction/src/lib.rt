@@ -1,4 +1,6 @@
 // Safe direction: the run and the watch of one direction, once for both, with a sign.
+#![tactic(auto)]
+
 ghost use Rattle.std.specs.Prelude.{◌≡◌};
 ghost use Rattle.direction.specs.Direction.{ahead, furthest, beyond_by, no_direction, watch_next, direction_next};
 
@@ -6,14 +8,14 @@ use inputs::Reading;
 use machine_data::{Values, numbers};
 
 // The travel that is allowed.
-#[derive(Drop)]
+#[derive(Clone, Copy)]
 pub enum Sign {
     Positive,
     Negative,
 }
 
 // The watch of a direction: none, or with its extreme, the position furthest in the allowed direction since it began.
-#[derive(Drop)]
+#[derive(Clone, Copy)]
 pub enum Watch {
     Off,
     On(i32),
@@ -21,7 +23,7 @@ pub enum Watch {
 
 // In how many usable cycles running the direction's bit has been 0, and its watch. The watch is a state of its own: it goes on
 // where the run is no longer above the delay, should the delay have been changed.
-#[derive(Drop)]
+#[derive(Clone, Copy)]
 pub struct Direction {
     pub run: u32,
     pub watch: Watch,

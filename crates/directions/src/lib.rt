@@ -1,4 +1,6 @@
 // Safe direction: both directions, the two signs of one, and cause 14.
+#![tactic(auto)]
+
 ghost use Rattle.std.specs.Prelude.{◌≡◌};
 ghost use Rattle.machine_data.specs.Data.{function_of};
 ghost use Rattle.directions.specs.Directions.{no_directions, directions_next, overstepped, watched_of, direction_rank};
@@ -9,14 +11,14 @@ use machine_data::{Values, functions, numbers};
 use rank::Rank;
 
 // Only positive travel, and only negative travel.
-#[derive(Drop)]
+#[derive(Clone, Copy)]
 pub struct Directions {
     pub positive: Direction,
     pub negative: Direction,
 }
 
 // The directions as a usable cycle leaves them, and whether one is overstepped: cause 14.
-#[derive(Drop)]
+#[derive(Clone, Copy)]
 pub struct Watched {
     pub directions: Directions,
     pub overstepped: bool,

@@ -1,9 +1,11 @@
 // Steps and distances of positions, on either side of zero.
+#![tactic(auto)]
+
 ghost use Rattle.std.specs.Prelude.{◌≡◌, ◌-ℤ◌, nat_abs};
 ghost use Rattle.distance.specs.Step.{step_from, moved_from};
 
 // The position of the cycle before, where there is one.
-#[derive(Drop)]
+#[derive(Clone, Copy)]
 pub enum Previous {
     Absent,
     At(i32),

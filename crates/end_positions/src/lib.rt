@@ -1,4 +1,6 @@
 // SE: cause 4, and its rank.
+#![tactic(auto)]
+
 ghost use Rattle.std.specs.Prelude.{◌≡◌, ◌<◌};
 ghost use Rattle.ranges.specs.Table.{data_count};
 ghost use Rattle.end_positions.specs.EndPositions.{beyond, outside, se_rank};

@@ -1,4 +1,6 @@
 // F with its time to B, which the crosswise comparison sets. Cause 13, which it brings, stands in active.
+#![tactic(auto)]
+
 ghost use Rattle.std.specs.Prelude.{◌≡◌, cond, ◌-◌};
 ghost use Rattle.machine_data.specs.Data.{number_of};
 ghost use Rattle.fault.specs.Fault.{fault_next, expired, cleared_fault};
@@ -6,7 +8,7 @@ ghost use Rattle.fault.specs.Fault.{fault_next, expired, cleared_fault};
 use machine_data::{Values, numbers};
 
 // F, and the cycles left of its time.
-#[derive(Drop)]
+#[derive(Clone, Copy)]
 pub struct Fault {
     pub on: bool,
     pub left: u32,

@@ -1,5 +1,7 @@
 // A channel's state as 26 words of 32 bits, what a program keeps of a channel that crosses into its memory: the places of the
 // words, and the state that is read from them. Every content of the words stands for some state.
+#![tactic(auto)]
+
 ghost use Rattle.std.specs.Prelude.{◌≡◌, ◌<◌};
 ghost use Rattle.image.specs.Image.{count_from, pending_count, pending_after, state_from};
 

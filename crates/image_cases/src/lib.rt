@@ -1,5 +1,7 @@
 // The sums of a channel's state as words of 32 bits, and back: the number of a value's case, and what it holds. Every content of
 // the words stands for some value.
+#![tactic(auto)]
+
 ghost use Rattle.std.specs.Prelude.{◌≡◌};
 ghost use Rattle.image_cases.specs.Cases.{previous_from, previous_words, PreviousFits, watch_from, watch_words, WatchFits, selection_from, selection_words, SelectionFits, stop_from, stop_words, StopFits};
 
@@ -10,7 +12,7 @@ use selection::Selection;
 use stop::Stop;
 
 // A value of a sum: the number of its case, and what it holds.
-#[derive(Drop)]
+#[derive(Clone, Copy)]
 pub struct Case {
     pub kind: u32,
     pub first: u32,

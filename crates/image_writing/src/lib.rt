@@ -1,4 +1,6 @@
 // A channel's state written into its words: what is read from them again is the same state.
+#![tactic(auto)]
+
 ghost use Rattle.std.specs.Prelude.{◌≡◌};
 ghost use Rattle.image_writing.specs.Written.{written_as, writing, writing_front, directions_as, writing_directions, writing_pending};
 

@@ -1,18 +1,20 @@
 // The input word by its fields.
+#![tactic(auto)]
+
 ghost use Rattle.std.specs.Prelude.{◌≡◌};
 ghost use Rattle.inputs.specs.Layout.{sbh_sg_off, sbh_off, sg_number, gear_number, ratio_in, se2_chosen, positive_only_off, negative_only_off, external_off, override_number};
 
 use machine_data::{Ratio, Values};
 
 // A channel's own position and input word.
-#[derive(Drop)]
+#[derive(Clone, Copy)]
 pub struct Reading {
     pub position: i32,
     pub inputs: u32,
 }
 
 // The external stops, by the rank of each.
-#[derive(Drop)]
+#[derive(Clone, Copy)]
 pub enum External {
     A,
     C,

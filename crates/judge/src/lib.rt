@@ -1,4 +1,6 @@
 // Steps 2 to 4 of a usable cycle: what moved, what is effective, and the table of causes.
+#![tactic(auto)]
+
 ghost use Rattle.std.specs.Prelude.{◌≡◌};
 ghost use Rattle.machine_data.specs.Data.{lent};
 ghost use Rattle.judge.specs.Causes.{step_of, any_differs, table, begun_of, findings_by, findings_of};
@@ -18,7 +20,7 @@ use stop::Stop;
 
 // What steps 2 to 4 come to: the step, what this cycle leaves of n<nx, the choice, the directions, the run and F, and the causes.
 // n<nx stands here, though it is of step 6, so that the step's products, which the causes need too, are worked out once.
-#[derive(Drop)]
+#[derive(Clone, Copy)]
 pub struct Findings {
     pub step: Step,
     pub nx: Signal,
@@ -30,7 +32,7 @@ pub struct Findings {
 }
 
 // What steps 2 and 3 come to, with n<nx and the run of differing inputs.
-#[derive(Drop)]
+#[derive(Clone, Copy)]
 pub struct Begun {
     pub step: Step,
     pub nx: Signal,
@@ -39,7 +41,7 @@ pub struct Begun {
 }
 
 // In what a channel and the report differ: causes 10, 11 and 12.
-#[derive(Drop)]
+#[derive(Clone, Copy)]
 pub struct Differences {
     pub position: bool,
     pub inputs: bool,

@@ -1,4 +1,6 @@
 // The two lists of a kit: the words behind list A are list B, and those behind B the log.
+#![tactic(auto)]
+
 ghost use Rattle.std.specs.Prelude.{◌≡◌};
 ghost use Rattle.kit.specs.Kit.{read_kit};
 
@@ -6,7 +8,7 @@ use list::ListAnswer;
 use machine_data::MachineData;
 use refusal::{Part, Refusal};
 
-#[derive(Drop)]
+#[derive(Clone, Copy)]
 pub enum KitAnswer {
     // where the log begins
     Accepted(usize),
@@ -14,7 +16,7 @@ pub enum KitAnswer {
     Refused(Refusal, Part),
 }
 
-#[derive(Drop)]
+#[derive(Clone, Copy)]
 pub struct KitRead {
     pub answer: KitAnswer,
     pub a: MachineData,

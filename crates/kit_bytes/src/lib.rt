@@ -1,4 +1,6 @@
 // A kit's bytes as words.
+#![tactic(auto)]
+
 ghost use Rattle.std.specs.Prelude.{◌≡◌, ◌+◌, ◌<◌, length, get_or};
 ghost use Rattle.kit_bytes.specs.KitBytes.{whole_words, big_endian, words_of, overlaid};
 

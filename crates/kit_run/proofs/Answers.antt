@@ -21,17 +21,17 @@ module _ (words out : List ℕ) {r : KitRead} (read : r ≡ read_kit words) wher
   unfolding kit_ran
   by_read h = ap (by_kit words out r) (sym h) ∙ ap (λ (y : KitRead). by_kit words out y y.answer) read
 
-  pub log-there : {at : ℕ} → r.answer ≡ K.TheVariants.Accepted at → at ≤ length words
-  log-there {at} h = kit_used words at (ap (λ (y : KitRead). y.answer) (sym read) ∙ h)
+  pub log_there : {at : ℕ} → r.answer ≡ K.TheVariants.Accepted at → at ≤ length words
+  log_there {at} h = kit_used words at (ap (λ (y : KitRead). y.answer) (sym read) ∙ h)
 
   -- what `&words[at..]` gives is the log
-  pub log-ran : {at : ℕ} → r.answer ≡ K.TheVariants.Accepted at → of_log (ran_of (fresh_channel r.a) (fresh_channel r.b) (take (length words - at) (drop at words)) out) ≡ kit_ran words out
-  log-ran {at} h = ap (λ (l : List ℕ). of_log (ran_of (fresh_channel r.a) (fresh_channel r.b) l out)) (rest_is words at) ∙ by_read h
+  pub log_ran : {at : ℕ} → r.answer ≡ K.TheVariants.Accepted at → of_log (ran_of (fresh_channel r.a) (fresh_channel r.b) (take (length words - at) (drop at words)) out) ≡ kit_ran words out
+  log_ran {at} h = ap (λ (l : List ℕ). of_log (ran_of (fresh_channel r.a) (fresh_channel r.b) l out)) (rest_is words at) ∙ by_read h
 
 -- the log's run, over channels that are the fresh ones
 module _ (a b : MachineData) (words out : List ℕ) {ca cb : Channel} (fresh-a : ca ≡ fresh_channel a) (fresh-b : cb ≡ fresh_channel b) {r : LogRun} {out' : List ℕ} (ran : left_by r out' ≡ ran_of ca cb words out) where
   pub answered : {x : L.LogAnswer} → r.answer ≡ x → answer_of x ≡ (of_log (ran_of (fresh_channel a) (fresh_channel b) words out)).answer
   answered h = ap answer_of (sym h ∙ ap (λ (x : Ran). x.answer) ran) ∙ (λ i. answer_of (ran_of (fresh-a i) (fresh-b i) words out).answer)
 
-  pub put-out : out' ≡ (of_log (ran_of (fresh_channel a) (fresh_channel b) words out)).out
-  put-out = ap (λ (x : Ran). x.out) ran ∙ (λ i. (ran_of (fresh-a i) (fresh-b i) words out).out)
+  pub put_out : out' ≡ (of_log (ran_of (fresh_channel a) (fresh_channel b) words out)).out
+  put_out = ap (λ (x : Ran). x.out) ran ∙ (λ i. (ran_of (fresh-a i) (fresh-b i) words out).out)

@@ -1,4 +1,6 @@
 // A kit's log, run over two fresh channels with the kit's lists.
+#![tactic(auto)]
+
 ghost use Rattle.std.specs.Prelude.{◌≡◌};
 ghost use Rattle.channel.specs.Cycle.{fresh_channel};
 ghost use Rattle.logs.specs.Run.{ran_of};
@@ -9,7 +11,7 @@ use logs::LogAnswer;
 use machine_data::MachineData;
 use refusal::{Part, Refusal};
 
-#[derive(Drop)]
+#[derive(Clone, Copy)]
 pub enum KitRun {
     // how many cycles were run
     Ran(usize),

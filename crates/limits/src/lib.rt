@@ -1,4 +1,6 @@
 // Causes 2, 3 and 5 to 9: whether each stands, and the ranks that data give.
+#![tactic(auto)]
+
 ghost use Rattle.std.specs.Prelude.{◌≡◌};
 ghost use Rattle.limits.specs.Limits.{standstill_left, over_speed, sg_rank, external, hold_left};
 

@@ -1,4 +1,6 @@
 // A line of the bench's text, in a lent buffer.
+#![tactic(auto)]
+
 ghost use Rattle.std.specs.Prelude.{◌≡◌, ◌∷◌, [], ◌++◌, ◌+◌, ◌≤◌, length};
 ghost use Rattle.numerals.specs.Numerals.{radix, digits as Numerals·digits, width as Numerals·width};
 ghost use Rattle.numerals.specs.Written.{splice, written};
@@ -7,7 +9,7 @@ ghost use Rattle.lines.specs.Lines.{ended, cycle_line, refused_word, refusal_lin
 use numerals::{Base, Span, has_room, put_digits, width};
 
 // A cycle and its three words.
-#[derive(Drop)]
+#[derive(Clone, Copy)]
 pub struct Line {
     pub cycle: usize,
     pub a: u32,

@@ -199,7 +199,7 @@ used_words s n e = ((accepted s (read_list s).list n).0 (whole_answer s n e)).0
 pub in_ranges : (s : List ℕ) (n : ℕ) → (read_list s).answer ≡ A.TheVariants.Accepted n → InRanges (read_list s).list
 in_ranges s n e k h = of_list ((accepted s (read_list s).list n).0 (whole_answer s n e)).1 h
   where
-    of_data : {head i m : ℕ} {vs : List ℤ} {ws : List ℕ} → DataTo head m i vs ws → (j : ℕ) → j + i < m → T (allowed head (j + i) (get_or vs j (pos 0)))
+    of_data : {head m i : ℕ} {vs : List ℤ} {ws : List ℕ} → DataTo head m i vs ws → (j : ℕ) → j + i < m → T (allowed head (j + i) (get_or vs j (pos 0)))
     of_data {m = m} end j l = absurd (omega (arith, l))
     of_data {head} (datum {k = i} {z} w r x) zero l = let same : i ≡ 0 + i = omega arith in subst (λ (n : ℕ). T (allowed head n z)) same r
     of_data {head} (datum {k = i} {vs = vs} w r x) (suc j) l =

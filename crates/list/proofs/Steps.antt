@@ -14,8 +14,6 @@ use lib.Ieee.Bits.{is_true}
 use mir.Syntax.{w32}
 use mir.Val.{to_z, of_z}
 use mir.ValLaws.{to_z-of_z}
-use denote.Enum.Declared.{tag_of}
-use types.Run.{OneOf}
 use borrow.Author.Tests.{eqb-true}
 use Rattle.laws.proofs.Bools.{is_false}
 use Rattle.refusal.specs.declared.Refusal.{Refusal}
@@ -24,7 +22,6 @@ use Rattle.words.specs.declared.Word.{Word}
 use Rattle.words.specs.declared.Word.TheVariants.{Head}
 use Rattle.words.specs.Words.{word_at}
 use Rattle.words.specs.Cases.{if_head}
-use Rattle.words.specs.contracts.Word.{the_type}
 use Rattle.words.proofs.Cases.{no_head}
 use Rattle.ranges.specs.Table.{data_count}
 use Rattle.machine_data.specs.declared.MachineData.{MachineData}
@@ -39,7 +36,7 @@ use Rattle.list.specs.declared.ListRead.{ListRead}
 behind_head : List ℕ → ℕ → ListRead
 behind_head s n = cond (is_head n) (gather n n s 0 1 zeros) (refused_list (WrongWord 0))
 
-pub no_head_word : (s : List ℕ) {x : Word} → x ≡ word_at s 0 → OneOf (1 ∷ 2 ∷ 3 ∷ 4 ∷ 5 ∷ 6 ∷ 7 ∷ 8 ∷ []) (tag_of the_type x) → refused_list (WrongWord 0) ≡ read_list s
+pub no_head_word : (s : List ℕ) {x : Word} → x ≡ word_at s 0 → ((n : ℕ) → x ≡ Head n → ⊥) → refused_list (WrongWord 0) ≡ read_list s
 unfolding read_list behind_head
 no_head_word s {x} e h = no_head x h (behind_head s) (refused_list (WrongWord 0)) ∙ ap (λ (y : Word). if_head y (behind_head s) (refused_list (WrongWord 0))) e
 

@@ -1,4 +1,6 @@
 // Reads a list of machine data: a head, then as many data as it says, in number order.
+#![tactic(auto)]
+
 ghost use Rattle.std.specs.Prelude.{◌≡◌, ◌≤◌};
 ghost use Rattle.ranges.specs.Table.{data_count};
 ghost use Rattle.list.specs.Rules.{is_head};
@@ -11,7 +13,7 @@ use ranges::{DATA, heads};
 use refusal::Refusal;
 use words::Word;
 
-#[derive(Drop)]
+#[derive(Clone, Copy)]
 pub enum ListAnswer {
     // how many words the list has
     Accepted(usize),
@@ -19,7 +21,7 @@ pub enum ListAnswer {
 }
 
 // The data stand beside the answer; a refused list has none.
-#[derive(Drop)]
+#[derive(Clone, Copy)]
 pub struct ListRead {
     pub answer: ListAnswer,
     pub list: MachineData,

@@ -3,15 +3,19 @@
 // A line that begins with = gives the words of the base list, in hexadecimal. Each other vector edits the base: the place of
 // the edit, how many words go there, and the words that come in their place. l reads the edited list alone, a reads it as
 // list A before the base, b as list B behind the base. What stands behind a # is a remark.
+#![tactic(auto)]
+
+ghost use Rattle.std.specs.Prelude.{◌≤◌, length};
+
 use kit::KitAnswer;
-use libc::STDOUT_FILENO;
 use list::ListAnswer;
 use machine_data::MachineData;
 use ranges::DATA;
 use refusal::{Part, Refusal};
+use std::io::Read;
 
 // The words of a list, or the numbers of a line.
-#[derive(Drop)]
+#[derive(Clone, Copy)]
 struct Words {
     words: [u32; 512],
     count: usize,
@@ -55,7 +59,7 @@ impl Words {
 }
 
 // A line as far as it is read.
-#[derive(Drop)]
+#[derive(Clone, Copy)]
 struct Line {
     mode: u8,
     numbers: Words,
@@ -178,33 +182,42 @@ fn least(a: usize, b: usize) -> usize {
     if a < b { a } else { b }
 }
 
-fn put_space() {
-    io::write_all(STDOUT_FILENO, b" ");
+// On standard output. What cannot be written is left out, and the next that can be follows.
+fn put(rt: &impl Print, bytes: &[u8]) {
+    let _ = rt.write_all(bytes);
 }
 
-fn put_number(n: u64) {
-    put_space();
-    io::print_decimal(STDOUT_FILENO, n);
+fn put_decimal(rt: &impl Print, n: u64) {
+    let _ = rt.print(n);
 }
 
-fn put_value(k: usize, z: i32) {
-    put_number(k as u64);
+fn put_space(rt: &impl Print) {
+    put(rt, b" ");
+}
+
+fn put_number(rt: &impl Print, n: u64) {
+    put_space(rt);
+    put_decimal(rt, n);
+}
+
+fn put_value(rt: &impl Print, k: usize, z: i32) {
+    put_number(rt, k as u64);
     if z < 0 {
-        io::write_all(STDOUT_FILENO, b"=-");
+        put(rt, b"=-");
     } else {
-        io::write_all(STDOUT_FILENO, b"=");
+        put(rt, b"=");
     }
-    io::print_decimal(STDOUT_FILENO, distance::distance(z, 0) as u64);
+    put_decimal(rt, distance::distance(z, 0) as u64);
 }
 
 // The data that differ from the base list's.
-fn put_changed(base: MachineData, list: MachineData) {
+fn put_changed(rt: &impl Print, base: MachineData, list: MachineData) {
     let mut k = 0usize;
     while k < DATA {
         let old = base.values[k];
         let new = list.values[k];
         if old != new {
-            put_value(k, new);
+            put_value(rt, k, new);
         }
         k += 1;
     }
@@ -222,19 +235,19 @@ fn read_words(words: Words) -> list::ListRead {
     read_first(&words.words, words.count)
 }
 
-fn put_list(base: Words, words: Words) {
+fn put_list(rt: &impl Print, base: Words, words: Words) {
     let read = read_words(words);
     let answer = read.answer;
     let list = read.list;
     match answer {
         ListAnswer::Accepted(n) => {
-            io::write_all(STDOUT_FILENO, b"accepted");
-            put_number(n as u64);
-            put_changed(read_words(base).list, list);
+            put(rt, b"accepted");
+            put_number(rt, n as u64);
+            put_changed(rt, read_words(base).list, list);
         }
         ListAnswer::Refused(why) => {
-            io::write_all(STDOUT_FILENO, b"refused");
-            put_refusal(why);
+            put(rt, b"refused");
+            put_refusal(rt, why);
         }
     }
 }
@@ -247,69 +260,69 @@ fn read_first_kit(words: &[u32], n: usize) -> kit::KitRead {
     }
 }
 
-fn put_refusal(why: Refusal) {
-    put_number(why.number() as u64);
-    put_number(why.place() as u64);
+fn put_refusal(rt: &impl Print, why: Refusal) {
+    put_number(rt, why.number() as u64);
+    put_number(rt, why.place() as u64);
 }
 
-fn put_part(part: Part) {
+fn put_part(rt: &impl Print, part: Part) {
     match part {
         Part::ListA => {
-            io::write_all(STDOUT_FILENO, b" A");
+            put(rt, b" A");
         }
         Part::ListB => {
-            io::write_all(STDOUT_FILENO, b" B");
+            put(rt, b" B");
         }
         Part::Log => {
-            io::write_all(STDOUT_FILENO, b" L");
+            put(rt, b" L");
         }
     }
 }
 
-fn put_kit(words: Words) {
+fn put_kit(rt: &impl Print, words: Words) {
     let read = read_first_kit(&words.words, words.count);
     let answer = read.answer;
     match answer {
         KitAnswer::Accepted(n) => {
-            io::write_all(STDOUT_FILENO, b"accepted");
-            put_number(n as u64);
+            put(rt, b"accepted");
+            put_number(rt, n as u64);
         }
         KitAnswer::Refused(why, part) => {
-            io::write_all(STDOUT_FILENO, b"refused");
-            put_part(part);
-            put_refusal(why);
+            put(rt, b"refused");
+            put_part(rt, part);
+            put_refusal(rt, why);
         }
     }
 }
 
 // The answer to a line; the base for the lines behind it.
-fn answered(line: Line, base: Words) -> Words {
+fn answered(rt: &impl Print, line: Line, base: Words) -> Words {
     let mode = line.mode;
     if mode == b'=' {
         return line.numbers;
     }
     let edited = line.edited(base);
     if mode == b'l' {
-        put_list(base, edited);
+        put_list(rt, base, edited);
     } else if mode == b'a' {
-        put_kit(edited.then(base, 0, base.count));
+        put_kit(rt, edited.then(base, 0, base.count));
     } else if mode == b'b' {
-        put_kit(base.then(edited, 0, edited.count));
+        put_kit(rt, base.then(edited, 0, edited.count));
     } else {
         return base;
     }
-    io::write_all(STDOUT_FILENO, b"\n");
+    put(rt, b"\n");
     base
 }
 
-fn run(text: &[u8]) {
+fn run(rt: &impl Print, text: &[u8]) {
     let mut base = Words::new();
     let mut line = no_line();
     let mut i = 0usize;
     while i < text.len() {
         let b = text[i];
         if b == b'\n' {
-            base = answered(line.closed(), base);
+            base = answered(rt, line.closed(), base);
             line = no_line();
         } else {
             line = line.with(b);
@@ -318,8 +331,22 @@ fn run(text: &[u8]) {
     }
 }
 
-fn main() {
-    let mut text = io::large_buffer();
-    let n = io::read_full(0, &mut text);
-    run(&text[..n]);
+// How many bytes were read, up to the end of the input or of the room, or to where it could not be read.
+fn read_full(input: &mut impl Read, room: &mut [u8]) -> usize
+    ensures { result ≤ length room.new }
+{
+    let mut done = 0usize;
+    while done < room.len() {
+        match input.read(&mut room[done..]) {
+            Ok(0) | Err(_) => return done,
+            Ok(more) => done += more,
+        }
+    }
+    done
+}
+
+fn main(rt: HostRuntime) {
+    let mut text = [0u8; 65536];
+    let n = read_full(&mut rt.stdin(), &mut text);
+    run(&rt, &text[..n]);
 }

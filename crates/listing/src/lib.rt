@@ -1,4 +1,6 @@
 // A kit's bytes listed as the bench's text, in a lent buffer.
+#![tactic(auto)]
+
 ghost use Rattle.std.specs.Prelude.{◌≡◌, ◌∷◌, [], ◌%◌, ◌≤◌, length};
 ghost use Rattle.numerals.specs.Written.{written};
 ghost use Rattle.kit_bytes.specs.KitBytes.{words_of};

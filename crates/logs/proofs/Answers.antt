@@ -82,8 +82,8 @@ module _ (a b : Channel) (words out : List ℕ) where
     unfolding ran_of
     by_log_lem e = simp (le-ltb 16384 (length words) short) (ap (by_records a b out) e)
 
-    pub bad-word : {r : LogStates} {place : ℕ} → r ≡ refused_states (WrongLog place) a.state b.state → scan_of words ≡ S.TheVariants.Bad place → left_of a b r out ≡ ran_of a b words out
-    bad-word {place = place} q e = refuses (WrongLog place) q (by_log_lem (faulty words place e))
+    pub bad_word : {r : LogStates} {place : ℕ} → r ≡ refused_states (WrongLog place) a.state b.state → scan_of words ≡ S.TheVariants.Bad place → left_of a b r out ≡ ran_of a b words out
+    bad_word {place = place} q e = refuses (WrongLog place) q (by_log_lem (faulty words place e))
 
     pub no_room : {r : LogStates} {n : ℕ} → r ≡ refused_states (ShortOutput (3 * n)) a.state b.state → scan_of words ≡ S.TheVariants.Cycles n → length out < 3 * n → left_of a b r out ≡ ran_of a b words out
     no_room {n = n} q e h =

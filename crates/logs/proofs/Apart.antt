@@ -14,7 +14,7 @@ use Rattle.judge.specs.Causes.{findings_of}
 use Rattle.advance.specs.After.{unusable_next, usable_next}
 use Rattle.channel.specs.Cycle.{clears_in, strongest_in, next}
 use Rattle.logs.specs.Run.{given_a, given_b, Both, device_cycle, last_of, lines_of}
-use Rattle.logs.specs.Alone.{last_alone, words_alone}
+use Rattle.logs.specs.Alone.{given_in, last_alone, words_alone}
 use Rattle.logs.proofs.Thirds.{tripled}
 
 next_k_lem : (d : MachineData) (s : State) (g : Given) → (next d s g).k ≡ next_k d.count s.k
@@ -28,7 +28,7 @@ next_k_lem d s g = go (usable_of d g.reading)
 pub as_many : (second : Bool) (d e : MachineData) (s : State) (k : ℕ) (rs : List CycleRecord) → length (words_alone second d e s k rs) ≡ length rs
 unfolding words_alone
 as_many second d e s k [] = refl
-as_many second d e s k (r ∷ rs) = ap suc (as_many second d e _ _ rs)
+as_many second d e s k (r ∷ rs) = ap suc (as_many second d e (next d s (given_in second e k r)) (next_k e.count k) rs)
 
 module _ (da db : MachineData) where
   -- the other's k after a cycle of both

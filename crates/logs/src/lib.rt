@@ -1,4 +1,6 @@
 // The run of a log over two channels, into a lent output.
+#![tactic(auto)]
+
 ghost use Rattle.std.specs.Prelude.{◌≡◌, cond, ◌+◌, ◌≤◌, ◌*◌, length};
 ghost use Rattle.machine_data.specs.Data.{lent};
 ghost use Rattle.seven.specs.Seven.{six_from, record_of};
@@ -15,7 +17,7 @@ use seven::{CycleRecord, Halves, Six};
 use state::{Given, State};
 use words::Word;
 
-#[derive(Drop)]
+#[derive(Clone, Copy)]
 pub enum LogAnswer {
     // how many cycles were run
     Accepted(usize),
@@ -35,7 +37,7 @@ impl LogAnswer {
 }
 
 // Both channels come back, as they were where the log is refused.
-#[derive(Drop)]
+#[derive(Clone, Copy)]
 pub struct LogRun {
     pub answer: LogAnswer,
     pub a: Channel,
@@ -43,7 +45,7 @@ pub struct LogRun {
 }
 
 // The same of two states beside their data.
-#[derive(Drop)]
+#[derive(Clone, Copy)]
 pub struct LogStates {
     pub answer: LogAnswer,
     pub a: State,
@@ -69,7 +71,7 @@ fn record_at(words: &[u32], at: usize, position: i32) -> CycleRecord
         b,
         end: words[at + 6],
     };
-    seven::record_of_lem(position, six)
+    seven::record_of(position, six)
 }
 
 // A channel's reading in a record: A's is the first of two, B's the second.

@@ -1,4 +1,6 @@
 // The machine data of a channel: the data of a list by number and name, and a datum read within its range.
+#![tactic(auto)]
+
 pub mod functions;
 pub mod numbers;
 
@@ -12,14 +14,14 @@ use ranges::DATA;
 pub type Values = [i32; DATA];
 
 // The data of an accepted list, and how many it has; the places behind them are 0. A count of 0 where there is no list.
-#[derive(Drop)]
+#[derive(Clone, Copy)]
 pub struct MachineData {
     pub values: Values,
     pub count: usize,
 }
 
 // A gear stage's ratio of load to step.
-#[derive(Drop)]
+#[derive(Clone, Copy)]
 pub struct Ratio {
     pub numerator: u16,
     pub denominator: u16,

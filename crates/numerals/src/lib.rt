@@ -1,16 +1,18 @@
 // Numbers as digits of a base, in lent bytes.
+#![tactic(auto)]
+
 ghost use Rattle.std.specs.Prelude.{◌≡◌, ◌+◌, ◌/◌, ◌%◌, ◌<◌, ◌≤◌, length, leb};
 ghost use Rattle.numerals.specs.Numerals.{radix as Numerals·radix, glyph as Numerals·glyph, digits, width as Numerals·width};
 ghost use Rattle.numerals.specs.Written.{splice, written};
 
-#[derive(Drop)]
+#[derive(Clone, Copy)]
 pub enum Base {
     Decimal,
     Hexadecimal,
 }
 
 // So many bytes from a place on.
-#[derive(Drop)]
+#[derive(Clone, Copy)]
 pub struct Span {
     pub at: usize,
     pub many: usize,

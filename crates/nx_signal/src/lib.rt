@@ -1,4 +1,6 @@
 // The signal n<nx: its value, steadied by a hysteresis and a filter.
+#![tactic(auto)]
+
 ghost use Rattle.std.specs.Prelude.{◌≡◌};
 ghost use Rattle.nx_signal.specs.Signal.{released, signal_below, signal_above, signal_next};
 
@@ -6,7 +8,7 @@ use machine_data::{Values, numbers};
 use speed::Step;
 
 // The value, and for how many usable cycles running the speed has been below nx.
-#[derive(Drop)]
+#[derive(Clone, Copy)]
 pub struct Signal {
     pub run: u32,
     pub on: bool,

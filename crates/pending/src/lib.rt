@@ -1,4 +1,6 @@
 // A list for a running channel: asked about, then committed.
+#![tactic(auto)]
+
 ghost use Rattle.std.specs.Prelude.{◌≡◌, []};
 ghost use Rattle.machine_data.specs.Data.{lent};
 ghost use Rattle.codes.specs.Codes.{causes_of};
@@ -15,21 +17,21 @@ use report::Report;
 use state::{Given, State};
 
 // What an ask answers: how many words the list has and the causes told, or the refusal and none; and the channel that it leaves.
-#[derive(Drop)]
+#[derive(Clone, Copy)]
 pub struct Asked {
     pub answer: ListAnswer,
     pub causes: Causes,
     pub channel: Channel,
 }
 
-#[derive(Drop)]
+#[derive(Clone, Copy)]
 pub enum CommitAnswer {
     Taken,
     Refused(Refusal),
 }
 
 // What a commit answers, and the channel that it leaves.
-#[derive(Drop)]
+#[derive(Clone, Copy)]
 pub struct CommitRun {
     pub answer: CommitAnswer,
     pub channel: Channel,

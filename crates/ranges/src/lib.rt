@@ -1,4 +1,6 @@
 // The table of ranges: between which ends each of the machine data lies.
+#![tactic(auto)]
+
 pub mod heads;
 
 ghost use Rattle.std.specs.Prelude.{◌≡◌, ◌<◌, ◌≤◌};
@@ -8,7 +10,7 @@ ghost use Rattle.ranges.specs.Table.{data_count, range_of, in_range, most_functi
 pub const DATA: usize = 72;
 
 // The range of a datum, by its ends.
-#[derive(Drop)]
+#[derive(Clone, Copy)]
 pub struct Range {
     pub low: i32,
     pub high: i32,

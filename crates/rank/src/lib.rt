@@ -1,10 +1,12 @@
 // Stop ranks, with their numbers and the data of their times as constants.
+#![tactic(auto)]
+
 ghost use Rattle.std.specs.Prelude.{◌≡◌};
 ghost use Rattle.rank.specs.Rank.{rank_number, rank_from, stronger_of, time_of};
 
 use machine_data::{Values, numbers};
 
-#[derive(Drop)]
+#[derive(Clone, Copy)]
 pub enum Rank {
     None,
     E,

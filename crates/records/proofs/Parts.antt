@@ -1,19 +1,16 @@
 -- The parts of a record by what was read of their words. Assumes nothing.
 use mathlib.Core.Path.{◌≡◌, sym, ap, ◌∙◌}
 use mathlib.Core.Bool.{Bool}
-use mathlib.Core.List.{List, [], ◌∷◌}
+use mathlib.Core.List.{List}
 use Prim.Native.Nat.{ℕ, ◌+◌, ◌*◌, ◌≤◌, ◌<◌}
 use native.Mathlib.Omega.{arith}
 use lib.ListN.{length}
 use lib.IntN.{ℤ}
-use denote.Enum.Declared.{tag_of}
-use types.Run.{OneOf}
 use Rattle.laws.proofs.Never.{never}
 use Rattle.words.specs.declared.Word.{Word}
 use Rattle.words.specs.declared.Word.TheVariants as W
 use Rattle.words.specs.Words.{word_at}
 use Rattle.words.specs.Cases.{if_position, if_lower, if_upper, if_end}
-use Rattle.words.specs.contracts.Word.{the_type}
 use Rattle.words.proofs.Cases.{no_position, no_lower, no_upper, no_end, no_remark, is_lower, is_upper, there}
 use Rattle.inputs.specs.declared.Reading.{Reading}
 use Rattle.records.specs.declared.InputsRead as I
@@ -35,7 +32,7 @@ module _ (s : List ℕ) (at : ℕ) where
   high_of_lem : ℕ → I.InputsRead
   high_of_lem low = if_upper (word_at s (at + 1)) (λ high. I.TheVariants.Inputs (high * 65536 + low)) (I.TheVariants.Bad (at + 1))
 
-  pub no_low : {x : Word} → x ≡ word_at s at → OneOf (0 ∷ 1 ∷ 2 ∷ 3 ∷ 5 ∷ 6 ∷ 7 ∷ 8 ∷ []) (tag_of the_type x) → I.TheVariants.Bad at ≡ inputs_at s at
+  pub no_low : {x : Word} → x ≡ word_at s at → ((b : ℕ) → x ≡ W.Lower b → ⊥) → I.TheVariants.Bad at ≡ inputs_at s at
   unfolding inputs_at high_of_lem
   no_low {x} e h = no_lower x h high_of_lem (I.TheVariants.Bad at) ∙ ap (λ (y : Word). if_lower y high_of_lem (I.TheVariants.Bad at)) e
 
@@ -44,7 +41,7 @@ module _ (s : List ℕ) (at : ℕ) where
     unfolding inputs_at high_of_lem
     low_is = sym (ap (λ (y : Word). if_lower y high_of_lem (I.TheVariants.Bad at)) lower)
 
-    pub no_high : {x : Word} → x ≡ word_at s (at + 1) → OneOf (0 ∷ 1 ∷ 2 ∷ 3 ∷ 4 ∷ 6 ∷ 7 ∷ 8 ∷ []) (tag_of the_type x) → I.TheVariants.Bad (at + 1) ≡ inputs_at s at
+    pub no_high : {x : Word} → x ≡ word_at s (at + 1) → ((b : ℕ) → x ≡ W.Upper b → ⊥) → I.TheVariants.Bad (at + 1) ≡ inputs_at s at
     unfolding high_of_lem
     no_high {x} e h =
         no_upper x h (λ high. I.TheVariants.Inputs (high * 65536 + low)) (I.TheVariants.Bad (at + 1))
@@ -71,7 +68,7 @@ module _ (s : List ℕ) (at : ℕ) where
 -- ---- the record
 
 module _ (s : List ℕ) (at : ℕ) where
-  pub no_ending : (a b : Reading) {x : Word} → x ≡ word_at s at → OneOf (0 ∷ 1 ∷ 2 ∷ 3 ∷ 4 ∷ 5 ∷ 7 ∷ 8 ∷ []) (tag_of the_type x) → E.TheVariants.Bad at ≡ ending_at s at a b
+  pub no_ending : (a b : Reading) {x : Word} → x ≡ word_at s at → ((a : Bool) → x ≡ W.End a → ⊥) → E.TheVariants.Bad at ≡ ending_at s at a b
   unfolding ending_at
   no_ending a b {x} e h =
       no_end x h (λ ack. E.TheVariants.Record (record { a = a; b = b; acknowledged = ack })) (E.TheVariants.Bad at)
@@ -81,7 +78,7 @@ module _ (s : List ℕ) (at : ℕ) where
   unfolding ending_at
   ending_is a b e = sym (ap (λ (y : Word). if_end y (λ ack. E.TheVariants.Record (record { a = a; b = b; acknowledged = ack })) (E.TheVariants.Bad at)) e)
 
-  pub no_other : (a : Reading) {x : Word} → x ≡ word_at s at → OneOf (0 ∷ 1 ∷ 2 ∷ 4 ∷ 5 ∷ 6 ∷ 7 ∷ 8 ∷ []) (tag_of the_type x) → E.TheVariants.Bad at ≡ other_at s at a
+  pub no_other : (a : Reading) {x : Word} → x ≡ word_at s at → ((z : ℤ) → x ≡ W.Position z → ⊥) → E.TheVariants.Bad at ≡ other_at s at a
   unfolding other_at
   no_other a {x} e h =
       no_position x h (λ p. on_inputs (inputs_at s (at + 1)) (λ w. ending_at s (at + 3) a (reading p w))) (E.TheVariants.Bad at)
@@ -94,7 +91,7 @@ module _ (s : List ℕ) (at : ℕ) where
       sym (ap (λ (y : Word). if_position y (λ p. on_inputs (inputs_at s (at + 1)) (λ w. ending_at s (at + 3) a (reading p w))) (E.TheVariants.Bad at)) e
       ∙ ap (λ (y : I.InputsRead). on_inputs y (λ w. ending_at s (at + 3) a (reading p w))) i)
 
-  pub no_record : {x : Word} → x ≡ word_at s at → OneOf (0 ∷ 1 ∷ 2 ∷ 4 ∷ 5 ∷ 6 ∷ 7 ∷ 8 ∷ []) (tag_of the_type x) → between_of x at ≡ entry_at s at
+  pub no_record : {x : Word} → x ≡ word_at s at → ((z : ℤ) → x ≡ W.Position z → ⊥) → between_of x at ≡ entry_at s at
   unfolding entry_at
   no_record {x} e h =
       no_position x h (λ p. on_inputs (inputs_at s (at + 1)) (λ w. other_at s (at + 3) (reading p w))) (between_of x at)
@@ -115,5 +112,5 @@ remark_is s at e =
 pub is_between : {x : Word} (at : ℕ) → x ≡ W.Remark → E.TheVariants.Remark ≡ between_of x at
 is_between at e = sym (ap (λ (y : Word). between_of y at) e)
 
-pub not_between : (x : Word) (at : ℕ) → OneOf (0 ∷ 1 ∷ 2 ∷ 3 ∷ 4 ∷ 5 ∷ 6 ∷ 8 ∷ []) (tag_of the_type x) → E.TheVariants.Bad at ≡ between_of x at
+pub not_between : (x : Word) (at : ℕ) → (x ≡ W.Remark → ⊥) → E.TheVariants.Bad at ≡ between_of x at
 not_between x at h = no_remark x h E.TheVariants.Remark (E.TheVariants.Bad at)

@@ -1,22 +1,19 @@
 -- A record by its first word's position and the six words behind it. Assumes nothing.
 use mathlib.Core.Path.{◌≡◌, refl, sym, ap, ◌∙◌, subst}
 use mathlib.Core.Bool.{true, false, true≢false}
-use mathlib.Core.List.{List, [], ◌∷◌}
+use mathlib.Core.List.{List}
 use Prim.Native.Nat.{ℕ, ◌+◌, ◌*◌, ◌/◌, ◌%◌, ◌<◌}
 use native.Mathlib.Omega.{arith}
 use lib.ListN.{length, get_or}
 use lib.IntN.{ℤ}
 use lib.Dec.{eqb}
 use borrow.Author.Tests.{lt-ltb}
-use denote.Enum.Declared.{tag_of}
-use types.Run.{OneOf}
 use Rattle.laws.proofs.Never.{never}
 use Rattle.words.specs.declared.Word.{Word}
 use Rattle.words.specs.declared.Word.TheVariants as W
 use Rattle.words.specs.Words.{word_of, word_at}
 use Rattle.words.specs.IsWord.{IsWord}
 use Rattle.words.specs.Cases.{if_position}
-use Rattle.words.specs.contracts.Word.{the_type}
 use Rattle.words.proofs.Cases.{no_position}
 use Rattle.words.proofs.IsWord.{read_at}
 use Rattle.seven.specs.declared.CycleRecord.{CycleRecord}
@@ -34,7 +31,7 @@ unfolding word_at
 at_word s at h e = simp (lt-ltb at (length s) h) e
 
 -- a word that a `let .. else` leaves out is no position, by its tag
-pub begins_none : (w : ℕ) {x : Word} → x ≡ word_of w → OneOf (0 ∷ 1 ∷ 2 ∷ 4 ∷ 5 ∷ 6 ∷ 7 ∷ 8 ∷ []) (tag_of the_type x) → (p : ℤ) → word_of w ≡ W.Position p → ⊥
+pub begins_none : (w : ℕ) {x : Word} → x ≡ word_of w → ((z : ℤ) → x ≡ W.Position z → ⊥) → (p : ℤ) → word_of w ≡ W.Position p → ⊥
 begins_none w {x} e h p q = true≢false (sym (no_position x h (λ z. true) false ∙ ap (λ (y : Word). if_position y (λ z. true) false) (e ∙ q)))
 
 abbrev halves_at : List ℕ → ℕ → ℕ → Halves

@@ -1,4 +1,6 @@
 // A log as cycle records, with remarks between them.
+#![tactic(auto)]
+
 ghost use Rattle.std.specs.Prelude.{◌≡◌};
 ghost use Rattle.words.specs.declared.Word.TheVariants.{Position};
 ghost use Rattle.words.specs.Words.{word_at};
@@ -9,14 +11,14 @@ use seven::CycleRecord;
 use words::Word;
 
 // The input word from its two halves, or the place of a missing or wrong word.
-#[derive(Drop)]
+#[derive(Clone, Copy)]
 enum InputsRead {
     Inputs(u32),
     Bad(usize),
 }
 
 // What stands at a place of a log: a record of seven words, a remark, or the place of a missing or wrong word.
-#[derive(Drop)]
+#[derive(Clone, Copy)]
 pub enum Entry {
     Record(CycleRecord),
     Remark,
@@ -24,7 +26,7 @@ pub enum Entry {
 }
 
 // How many cycles a log has, or the place of its first missing or wrong word.
-#[derive(Drop)]
+#[derive(Clone, Copy)]
 pub enum Scan {
     Cycles(usize),
     Bad(usize),
@@ -95,7 +97,7 @@ pub fn entry_at(words: &[u32], at: usize) -> Entry
     };
     let six = seven::six_behind(words, at);
     if seven::are_six(six) {
-        return Entry::Record(seven::record_of_lem(position, six));
+        return Entry::Record(seven::record_of(position, six));
     }
     by_words(words, at, position)
 }

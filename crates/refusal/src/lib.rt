@@ -1,8 +1,10 @@
 // Why a list, a log or a commit is refused: the rows of document 01's refusal table and of W7, each with what it returns beside its number.
+#![tactic(auto)]
+
 ghost use Rattle.std.specs.Prelude.{◌≡◌};
 ghost use Rattle.refusal.specs.Refusal.{refusal_number, refusal_place};
 
-#[derive(Drop)]
+#[derive(Clone, Copy)]
 pub enum Refusal {
     // a list's word is missing, or of wrong kind, number or bits: its place
     WrongWord(usize),
@@ -21,7 +23,7 @@ pub enum Refusal {
 }
 
 // The part of a kit that a refusal is about, and in which its place is counted.
-#[derive(Drop)]
+#[derive(Clone, Copy)]
 pub enum Part {
     ListA,
     ListB,

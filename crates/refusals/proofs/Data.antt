@@ -58,6 +58,7 @@ pieces_broken s at (suc n) bits place e = go (fits a_piece (word_at s at)) refl 
 
 broken_pieces : (n : ℕ) {m : ℕ} {ws : List ℕ} → Breaks (pieces n) ws m → (s : List ℕ) (at : ℕ) → drop at s ≡ ws → (bits : ℕ) → pieces_at s at n bits ≡ P.TheVariants.Bad (at + m)
 unfolding pieces_at
+broken_pieces zero b s at e bits = elim b [ ]
 broken_pieces (suc n) (here none) s at e bits =
     let none' : Lacks a_piece (drop at s) = subst (Lacks a_piece) (sym e) none in
     other_piece (word_at s at) (λ b. pieces_at s (at + 1) n (bits * 65536 + b)) (P.TheVariants.Bad at) (lacked a_piece s at none')

@@ -1,4 +1,6 @@
 // Reports: the datum that a channel reports in a cycle, what it reports, and cause 12.
+#![tactic(auto)]
+
 ghost use Rattle.std.specs.Prelude.{◌≡◌};
 ghost use Rattle.machine_data.specs.Data.{lent};
 ghost use Rattle.report.specs.Report.{next_k, report_of, datum_differs};
@@ -8,7 +10,7 @@ use machine_data::Values;
 use ranges::DATA;
 
 // The other channel's position, input word, datum k and head: how many data its list has.
-#[derive(Drop)]
+#[derive(Clone, Copy)]
 pub struct Report {
     pub position: i32,
     pub inputs: u32,

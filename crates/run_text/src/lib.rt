@@ -1,4 +1,6 @@
 // The lines of a run, in a lent buffer.
+#![tactic(auto)]
+
 ghost use Rattle.std.specs.Prelude.{◌≡◌, ◌+◌, ◌≤◌, ◌<◌, length};
 ghost use Rattle.numerals.specs.Written.{splice, written};
 ghost use Rattle.run_text.specs.RunText.{line_at, lines_from, run_text};

@@ -1,4 +1,6 @@
 // A run: in how many usable cycles running something has been so, the present one the last.
+#![tactic(auto)]
+
 ghost use Rattle.std.specs.Prelude.{◌≡◌};
 ghost use Rattle.runs.specs.Run.{run_next};
 

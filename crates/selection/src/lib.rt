@@ -1,4 +1,6 @@
 // Step 3 of a cycle: what is selected, and what is effective.
+#![tactic(auto)]
+
 ghost use Rattle.std.specs.Prelude.{◌≡◌};
 ghost use Rattle.selection.specs.Selection.{selected_of, allowance_of, stricter, is_sg, same_sg, is_sbh, reference_of, bound_of, delay_count, waited_of, choice_next};
 
@@ -6,7 +8,7 @@ use inputs::Reading;
 use machine_data::{Values, functions, numbers};
 use speed::Sg;
 
-#[derive(Drop)]
+#[derive(Clone, Copy)]
 pub enum Selection {
     Nothing,
     // the SG's number less one, and the override's number
@@ -15,7 +17,7 @@ pub enum Selection {
 }
 
 // The effective selection, once one was made; SBH's reference; the cycles left of a lowering, 0 where none is under way.
-#[derive(Drop)]
+#[derive(Clone, Copy)]
 pub struct Choice {
     pub chosen: bool,
     pub effective: Selection,

@@ -1,11 +1,13 @@
 // A record's words: the first gives its position, and the six behind it are looked at together.
+#![tactic(auto)]
+
 ghost use Rattle.std.specs.Prelude.{◌≡◌};
 ghost use Rattle.seven.specs.Seven.{are_halves, reading_from, six_behind, are_six, record_of};
 
 use inputs::Reading;
 
 // What a record gives both channels.
-#[derive(Drop)]
+#[derive(Clone, Copy)]
 pub struct CycleRecord {
     pub a: Reading,
     pub b: Reading,
@@ -13,14 +15,14 @@ pub struct CycleRecord {
 }
 
 // The two words that hold an input word.
-#[derive(Drop)]
+#[derive(Clone, Copy)]
 pub struct Halves {
     pub lower: u32,
     pub upper: u32,
 }
 
 // The six words behind a record's first: A's input word, B's position and input word, the end.
-#[derive(Drop)]
+#[derive(Clone, Copy)]
 pub struct Six {
     pub a: Halves,
     pub position: u32,
@@ -97,7 +99,7 @@ pub fn are_six(six: Six) -> bool
 }
 
 // The record that a position and the six words behind it hold.
-pub fn record_of_lem(position: i32, six: Six) -> CycleRecord
+pub fn record_of(position: i32, six: Six) -> CycleRecord
     ensures { result ≡ record_of position six }
 {
     let a = six.a;

@@ -1,4 +1,6 @@
 // A single cycle with its device word.
+#![tactic(auto)]
+
 ghost use Rattle.std.specs.Prelude.{◌≡◌};
 ghost use Rattle.single.specs.Single.{single_of};
 
@@ -7,7 +9,7 @@ use codes::Causes;
 use state::Given;
 
 // What a single cycle gives, with the device word of its channel word and the other's.
-#[derive(Drop)]
+#[derive(Clone, Copy)]
 pub struct SingleOutcome {
     pub channel: Channel,
     pub word: u32,

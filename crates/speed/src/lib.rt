@@ -1,18 +1,20 @@
 // Speeds compared without a division: a step in a cycle, times its gear's ratio, against a speed times the cycle's length.
+#![tactic(auto)]
+
 ghost use Rattle.std.specs.Prelude.{◌≡◌, ◌≤◌};
 ghost use Rattle.speed.specs.Speed.{percent_of, speed_of, load_step, load_time, too_fast, slower_than, slower};
 
 use machine_data::{Ratio, Values, numbers};
 
 // The step of a cycle, |d|, and the ratio of its gear.
-#[derive(Drop)]
+#[derive(Clone, Copy)]
 pub struct Step {
     pub moved: u32,
     pub ratio: Ratio,
 }
 
 // An SG by its number less one, with the number of its override.
-#[derive(Drop)]
+#[derive(Clone, Copy)]
 pub struct Sg {
     pub number: u8,
     pub over: u8,

@@ -1,4 +1,6 @@
 // What a channel keeps from cycle to cycle, and what it is given in one.
+#![tactic(auto)]
+
 ghost use Rattle.std.specs.Prelude.{◌≡◌};
 ghost use Rattle.state.specs.State.{fresh_state};
 
@@ -12,7 +14,7 @@ use selection::{Choice, Selection};
 use stop::Stop;
 
 // What an unusable cycle leaves alone.
-#[derive(Drop)]
+#[derive(Clone, Copy)]
 pub struct Kept {
     // the cam signals as bits, in data order. A whole word: behind a single byte the choice would be kept in pieces
     pub cams: u32,
@@ -28,7 +30,7 @@ pub struct Kept {
 
 // What a cycle changes. The previous position stands last: behind it a choice, which a cycle reads as one word, would be
 // read from memory that was just written in pieces.
-#[derive(Drop)]
+#[derive(Clone, Copy)]
 pub struct State {
     // the number of the datum that this cycle reports
     pub k: u8,
@@ -38,7 +40,7 @@ pub struct State {
 }
 
 // What a channel is given in a cycle.
-#[derive(Drop)]
+#[derive(Clone, Copy)]
 pub struct Given {
     pub reading: Reading,
     pub acknowledged: bool,

@@ -1,4 +1,6 @@
 // The stop state of a channel.
+#![tactic(auto)]
+
 ghost use Rattle.std.specs.Prelude.{◌≡◌, ◌-◌};
 ghost use Rattle.speed.specs.Speed.{slower};
 ghost use Rattle.stop.specs.Stop.{rank_of, counted_of, held_at, braked_at, at_count, settled_of, stop_next};
@@ -8,7 +10,7 @@ use machine_data::{Values, numbers};
 use rank::Rank;
 use speed::Step;
 
-#[derive(Drop)]
+#[derive(Clone, Copy)]
 pub enum Stop {
     // Rank 0.
     Free,
@@ -63,7 +65,7 @@ impl Stop {
     }
 
     // A stop of rank r with n cycles left.
-    fn at_count_lem(values: &Values, step: Step, reading: Reading, r: Rank, n: u32) -> Stop
+    fn at_count(values: &Values, step: Step, reading: Reading, r: Rank, n: u32) -> Stop
         ensures { result ≡ at_count (slower values.now step 33) reading.position r n }
     {
         match r {
@@ -82,7 +84,7 @@ impl Stop {
     {
         match self {
             Stop::Free => self,
-            Stop::Braking(r, n) => Stop::at_count_lem(values, step, reading, r, less_one(n)),
+            Stop::Braking(r, n) => Stop::at_count(values, step, reading, r, less_one(n)),
             Stop::Held(_, _) => self,
             Stop::Cancelled => self,
         }
@@ -103,7 +105,7 @@ impl Stop {
             return Stop::Free;
         }
         if self.rank().number() < strongest.number() {
-            Stop::at_count_lem(values, step, reading, strongest, strongest.time(values))
+            Stop::at_count(values, step, reading, strongest, strongest.time(values))
         } else {
             self.fallen(values, step, reading)
         }

@@ -1,4 +1,6 @@
 // Whether what a channel is given in a cycle can be used.
+#![tactic(auto)]
+
 ghost use Rattle.std.specs.Prelude.{◌≡◌, eqb};
 ghost use Rattle.machine_data.specs.Data.{has_ratios, function_of, lent};
 ghost use Rattle.inputs.specs.Layout.{gear_number, direction_bits};

@@ -1,4 +1,6 @@
 // The whole number that a float stands for, at both widths: worked out from the bits, turned back by `as` and compared exactly.
+#![tactic(auto)]
+
 ghost use Rattle.std.specs.Prelude.{◌≡◌, ◌^◌, ◌≤◌, ◌<◌};
 ghost use Rattle.std.specs.Float.{binary32, binary64};
 ghost use Rattle.std.specs.Float.Ieee.{of_bits};
@@ -6,7 +8,7 @@ ghost use Rattle.whole.specs.Whole.{limit, whole_of};
 ghost use Rattle.whole.specs.Bits.{whole_part, with_sign, pattern_number, compared};
 
 // A float stands for a whole number or for none.
-#[derive(Drop)]
+#[derive(Clone, Copy)]
 pub enum Whole {
     Is(i32),
     Not,

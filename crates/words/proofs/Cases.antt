@@ -1,18 +1,15 @@
 -- An answer that goes by one kind of word. Assumes nothing.
-use mathlib.Core.Path.{◌≡◌, refl, sym, ap, ◌∙◌, subst}
+use mathlib.Core.Path.{◌≡◌, refl, sym, ap, ◌∙◌}
 use mathlib.Core.Bool.{Bool, true, false, cond}
-use mathlib.Core.List.{List, [], ◌∷◌}
+use mathlib.Core.List.{List}
 use Prim.Native.Nat.{ℕ, ◌<◌}
 use lib.ListN.{length, get_or}
-use lib.Dec.{T, ltb, eqb}
+use lib.Dec.{T, ltb}
 use borrow.Author.Tests.{ltb-true}
 use lib.IntN.{ℤ}
-use denote.Enum.Declared.{tag_of}
-use types.Run.{OneOf, miss}
 use Rattle.words.specs.declared.Word.{Word}
 use Rattle.words.specs.declared.Word.TheVariants.{Head, Datum, Piece, Position, Lower, Upper, End, Remark, Other}
 use Rattle.words.specs.Cases.{if_head, if_datum, if_piece, if_position, if_lower, if_upper, if_end, if_remark}
-use Rattle.words.specs.contracts.Word.{the_type}
 use Rattle.words.specs.Words.{word_of, word_at}
 
 -- ---- the two cases: a word of the kind, which `made` makes, gives what it holds; any other, which `is` tells apart, gives `other`
@@ -22,28 +19,92 @@ pub data Case {A B : Type 0} (is : Word → Bool) (made : B → Word) (x : Word)
   missed : is x ≡ false → Case is made x held other other
 
 pub case_head : {A : Type 0} (x : Word) (held : ℕ → A) (other : A) → Case (λ y. if_head y (λ b. true) false) Head x held other (if_head x held other)
-case_head x held other = elim x [ Head n ↦ met n refl | Datum k f ↦ missed refl | Piece b ↦ missed refl | Position z ↦ missed refl | Lower b ↦ missed refl | Upper b ↦ missed refl | End a ↦ missed refl | Remark ↦ missed refl | Other ↦ missed refl ]
+case_head (Head n) held other = met n refl
+case_head (Datum k f) held other = missed refl
+case_head (Piece b) held other = missed refl
+case_head (Position z) held other = missed refl
+case_head (Lower b) held other = missed refl
+case_head (Upper b) held other = missed refl
+case_head (End a) held other = missed refl
+case_head Remark held other = missed refl
+case_head Other held other = missed refl
 
 pub case_datum : {A : Type 0} (x : Word) (held : ℕ → ℕ → A) (other : A) → Case {B = ℕ × ℕ} (λ y. if_datum y (λ k f. true) false) (λ b. Datum b.0 b.1) x (λ b. held b.0 b.1) other (if_datum x held other)
-case_datum x held other = elim x [ Head n ↦ missed refl | Datum k f ↦ met (k, f) refl | Piece b ↦ missed refl | Position z ↦ missed refl | Lower b ↦ missed refl | Upper b ↦ missed refl | End a ↦ missed refl | Remark ↦ missed refl | Other ↦ missed refl ]
+case_datum (Head n) held other = missed refl
+case_datum (Datum k f) held other = met (k, f) refl
+case_datum (Piece b) held other = missed refl
+case_datum (Position z) held other = missed refl
+case_datum (Lower b) held other = missed refl
+case_datum (Upper b) held other = missed refl
+case_datum (End a) held other = missed refl
+case_datum Remark held other = missed refl
+case_datum Other held other = missed refl
 
 pub case_piece : {A : Type 0} (x : Word) (held : ℕ → A) (other : A) → Case (λ y. if_piece y (λ b. true) false) Piece x held other (if_piece x held other)
-case_piece x held other = elim x [ Head n ↦ missed refl | Datum k f ↦ missed refl | Piece b ↦ met b refl | Position z ↦ missed refl | Lower b ↦ missed refl | Upper b ↦ missed refl | End a ↦ missed refl | Remark ↦ missed refl | Other ↦ missed refl ]
+case_piece (Head n) held other = missed refl
+case_piece (Datum k f) held other = missed refl
+case_piece (Piece b) held other = met b refl
+case_piece (Position z) held other = missed refl
+case_piece (Lower b) held other = missed refl
+case_piece (Upper b) held other = missed refl
+case_piece (End a) held other = missed refl
+case_piece Remark held other = missed refl
+case_piece Other held other = missed refl
 
 pub case_position : {A : Type 0} (x : Word) (held : ℤ → A) (other : A) → Case (λ y. if_position y (λ b. true) false) Position x held other (if_position x held other)
-case_position x held other = elim x [ Head n ↦ missed refl | Datum k f ↦ missed refl | Piece b ↦ missed refl | Position z ↦ met z refl | Lower b ↦ missed refl | Upper b ↦ missed refl | End a ↦ missed refl | Remark ↦ missed refl | Other ↦ missed refl ]
+case_position (Head n) held other = missed refl
+case_position (Datum k f) held other = missed refl
+case_position (Piece b) held other = missed refl
+case_position (Position z) held other = met z refl
+case_position (Lower b) held other = missed refl
+case_position (Upper b) held other = missed refl
+case_position (End a) held other = missed refl
+case_position Remark held other = missed refl
+case_position Other held other = missed refl
 
 pub case_lower : {A : Type 0} (x : Word) (held : ℕ → A) (other : A) → Case (λ y. if_lower y (λ b. true) false) Lower x held other (if_lower x held other)
-case_lower x held other = elim x [ Head n ↦ missed refl | Datum k f ↦ missed refl | Piece b ↦ missed refl | Position z ↦ missed refl | Lower b ↦ met b refl | Upper b ↦ missed refl | End a ↦ missed refl | Remark ↦ missed refl | Other ↦ missed refl ]
+case_lower (Head n) held other = missed refl
+case_lower (Datum k f) held other = missed refl
+case_lower (Piece b) held other = missed refl
+case_lower (Position z) held other = missed refl
+case_lower (Lower b) held other = met b refl
+case_lower (Upper b) held other = missed refl
+case_lower (End a) held other = missed refl
+case_lower Remark held other = missed refl
+case_lower Other held other = missed refl
 
 pub case_upper : {A : Type 0} (x : Word) (held : ℕ → A) (other : A) → Case (λ y. if_upper y (λ b. true) false) Upper x held other (if_upper x held other)
-case_upper x held other = elim x [ Head n ↦ missed refl | Datum k f ↦ missed refl | Piece b ↦ missed refl | Position z ↦ missed refl | Lower b ↦ missed refl | Upper b ↦ met b refl | End a ↦ missed refl | Remark ↦ missed refl | Other ↦ missed refl ]
+case_upper (Head n) held other = missed refl
+case_upper (Datum k f) held other = missed refl
+case_upper (Piece b) held other = missed refl
+case_upper (Position z) held other = missed refl
+case_upper (Lower b) held other = missed refl
+case_upper (Upper b) held other = met b refl
+case_upper (End a) held other = missed refl
+case_upper Remark held other = missed refl
+case_upper Other held other = missed refl
 
 pub case_end : {A : Type 0} (x : Word) (held : Bool → A) (other : A) → Case (λ y. if_end y (λ b. true) false) End x held other (if_end x held other)
-case_end x held other = elim x [ Head n ↦ missed refl | Datum k f ↦ missed refl | Piece b ↦ missed refl | Position z ↦ missed refl | Lower b ↦ missed refl | Upper b ↦ missed refl | End a ↦ met a refl | Remark ↦ missed refl | Other ↦ missed refl ]
+case_end (Head n) held other = missed refl
+case_end (Datum k f) held other = missed refl
+case_end (Piece b) held other = missed refl
+case_end (Position z) held other = missed refl
+case_end (Lower b) held other = missed refl
+case_end (Upper b) held other = missed refl
+case_end (End a) held other = met a refl
+case_end Remark held other = missed refl
+case_end Other held other = missed refl
 
 pub case_remark : {A : Type 0} (x : Word) (held : A) (other : A) → Case {B = Unit {0}} (λ y. if_remark y true false) (λ b. Remark) x (λ b. held) other (if_remark x held other)
-case_remark x held other = elim x [ Head n ↦ missed refl | Datum k f ↦ missed refl | Piece b ↦ missed refl | Position z ↦ missed refl | Lower b ↦ missed refl | Upper b ↦ missed refl | End a ↦ missed refl | Remark ↦ met tt refl | Other ↦ missed refl ]
+case_remark (Head n) held other = missed refl
+case_remark (Datum k f) held other = missed refl
+case_remark (Piece b) held other = missed refl
+case_remark (Position z) held other = missed refl
+case_remark (Lower b) held other = missed refl
+case_remark (Upper b) held other = missed refl
+case_remark (End a) held other = missed refl
+case_remark Remark held other = met tt refl
+case_remark Other held other = missed refl
 
 -- ---- what follows for every kind
 
@@ -53,11 +114,11 @@ pub from_held : {A B : Type 0} {is : Word → Bool} {made : B → Word} {x : Wor
 from_held (met b e) h apart = (b, e, h)
 from_held (missed q) h apart = absurd (apart h)
 
--- a word that a `let .. else` leaves out, by its tag
+-- a word that a `let .. else` leaves out
 pub left_out : {A B : Type 0} {is : Word → Bool} {made : B → Word} {x : Word} {held : B → A} {other r : A} → Case is made x held other r →
-    (tags : List ℕ) → ((b : B) → OneOf tags (tag_of the_type (made b)) → ⊥) → OneOf tags (tag_of the_type x) → other ≡ r
-left_out (met b e) tags none h = absurd (none b (subst (λ (y : Word). OneOf tags (tag_of the_type y)) e h))
-left_out (missed q) tags none h = refl
+    ((b : B) → x ≡ made b → ⊥) → other ≡ r
+left_out (met b e) none = absurd (none b e)
+left_out (missed q) none = refl
 
 -- a word that holds nothing that passes the test
 pub wanting : {A B : Type 0} {is : Word → Bool} {made : B → Word} {x : Word} {other r : A} (test : B → Bool) (held : B → A) → Case is made x (λ b. cond (test b) (held b) other) other r →
@@ -72,58 +133,50 @@ fitting (missed q) t = absurd t
 
 -- ---- kind by kind
 
--- the tags of every word but one
-abbrev but : ℕ → List ℕ → List ℕ
-but n [] = []
-but n (t ∷ ts) = cond (eqb t n) (but n ts) (t ∷ but n ts)
-
-abbrev pub tags_but : ℕ → List ℕ
-tags_but n = but n (0 ∷ 1 ∷ 2 ∷ 3 ∷ 4 ∷ 5 ∷ 6 ∷ 7 ∷ 8 ∷ [])
-
-pub no_head : {A : Type 0} (x : Word) → OneOf (tags_but 0) (tag_of the_type x) → (held : ℕ → A) (other : A) → other ≡ if_head x held other
-no_head x h held other = left_out (case_head x held other) (tags_but 0) (λ b. miss (tags_but 0) 0 tt) h
+pub no_head : {A : Type 0} (x : Word) → ((n : ℕ) → x ≡ Head n → ⊥) → (held : ℕ → A) (other : A) → other ≡ if_head x held other
+no_head x h held other = left_out (case_head x held other) h
 
 pub is_head_lem : {A : Type 0} (x : Word) (held : ℕ → A) (other r : A) → if_head x held other ≡ r → (other ≡ r → ⊥) → (n : ℕ) × (x ≡ Head n) × (held n ≡ r)
 is_head_lem x held other r e apart = from_held (case_head x held other) e apart
 
-pub no_datum : {A : Type 0} (x : Word) → OneOf (tags_but 1) (tag_of the_type x) → (held : ℕ → ℕ → A) (other : A) → other ≡ if_datum x held other
-no_datum x h held other = left_out (case_datum x held other) (tags_but 1) (λ b. miss (tags_but 1) 1 tt) h
+pub no_datum : {A : Type 0} (x : Word) → ((n form : ℕ) → x ≡ Datum n form → ⊥) → (held : ℕ → ℕ → A) (other : A) → other ≡ if_datum x held other
+no_datum x h held other = left_out (case_datum x held other) (λ b. h b.0 b.1)
 
 pub is_datum : {A : Type 0} (x : Word) (held : ℕ → ℕ → A) (other r : A) → if_datum x held other ≡ r → (other ≡ r → ⊥) → (n : ℕ) × (form : ℕ) × (x ≡ Datum n form) × (held n form ≡ r)
 is_datum x held other r e apart = let h = from_held (case_datum x held other) e apart in (h.0.0, h.0.1, h.1, h.2)
 
-pub no_piece : {A : Type 0} (x : Word) → OneOf (tags_but 2) (tag_of the_type x) → (held : ℕ → A) (other : A) → other ≡ if_piece x held other
-no_piece x h held other = left_out (case_piece x held other) (tags_but 2) (λ b. miss (tags_but 2) 2 tt) h
+pub no_piece : {A : Type 0} (x : Word) → ((b : ℕ) → x ≡ Piece b → ⊥) → (held : ℕ → A) (other : A) → other ≡ if_piece x held other
+no_piece x h held other = left_out (case_piece x held other) h
 
 pub is_piece : {A : Type 0} (x : Word) (held : ℕ → A) (other r : A) → if_piece x held other ≡ r → (other ≡ r → ⊥) → (b : ℕ) × (x ≡ Piece b) × (held b ≡ r)
 is_piece x held other r e apart = from_held (case_piece x held other) e apart
 
-pub no_position : {A : Type 0} (x : Word) → OneOf (tags_but 3) (tag_of the_type x) → (held : ℤ → A) (other : A) → other ≡ if_position x held other
-no_position x h held other = left_out (case_position x held other) (tags_but 3) (λ b. miss (tags_but 3) 3 tt) h
+pub no_position : {A : Type 0} (x : Word) → ((z : ℤ) → x ≡ Position z → ⊥) → (held : ℤ → A) (other : A) → other ≡ if_position x held other
+no_position x h held other = left_out (case_position x held other) h
 
 pub is_position : {A : Type 0} (x : Word) (held : ℤ → A) (other r : A) → if_position x held other ≡ r → (other ≡ r → ⊥) → (z : ℤ) × (x ≡ Position z) × (held z ≡ r)
 is_position x held other r e apart = from_held (case_position x held other) e apart
 
-pub no_lower : {A : Type 0} (x : Word) → OneOf (tags_but 4) (tag_of the_type x) → (held : ℕ → A) (other : A) → other ≡ if_lower x held other
-no_lower x h held other = left_out (case_lower x held other) (tags_but 4) (λ b. miss (tags_but 4) 4 tt) h
+pub no_lower : {A : Type 0} (x : Word) → ((b : ℕ) → x ≡ Lower b → ⊥) → (held : ℕ → A) (other : A) → other ≡ if_lower x held other
+no_lower x h held other = left_out (case_lower x held other) h
 
 pub is_lower : {A : Type 0} (x : Word) (held : ℕ → A) (other r : A) → if_lower x held other ≡ r → (other ≡ r → ⊥) → (b : ℕ) × (x ≡ Lower b) × (held b ≡ r)
 is_lower x held other r e apart = from_held (case_lower x held other) e apart
 
-pub no_upper : {A : Type 0} (x : Word) → OneOf (tags_but 5) (tag_of the_type x) → (held : ℕ → A) (other : A) → other ≡ if_upper x held other
-no_upper x h held other = left_out (case_upper x held other) (tags_but 5) (λ b. miss (tags_but 5) 5 tt) h
+pub no_upper : {A : Type 0} (x : Word) → ((b : ℕ) → x ≡ Upper b → ⊥) → (held : ℕ → A) (other : A) → other ≡ if_upper x held other
+no_upper x h held other = left_out (case_upper x held other) h
 
 pub is_upper : {A : Type 0} (x : Word) (held : ℕ → A) (other r : A) → if_upper x held other ≡ r → (other ≡ r → ⊥) → (b : ℕ) × (x ≡ Upper b) × (held b ≡ r)
 is_upper x held other r e apart = from_held (case_upper x held other) e apart
 
-pub no_end : {A : Type 0} (x : Word) → OneOf (tags_but 6) (tag_of the_type x) → (held : Bool → A) (other : A) → other ≡ if_end x held other
-no_end x h held other = left_out (case_end x held other) (tags_but 6) (λ b. miss (tags_but 6) 6 tt) h
+pub no_end : {A : Type 0} (x : Word) → ((a : Bool) → x ≡ End a → ⊥) → (held : Bool → A) (other : A) → other ≡ if_end x held other
+no_end x h held other = left_out (case_end x held other) h
 
 pub is_end : {A : Type 0} (x : Word) (held : Bool → A) (other r : A) → if_end x held other ≡ r → (other ≡ r → ⊥) → (a : Bool) × (x ≡ End a) × (held a ≡ r)
 is_end x held other r e apart = from_held (case_end x held other) e apart
 
-pub no_remark : {A : Type 0} (x : Word) → OneOf (tags_but 7) (tag_of the_type x) → (held : A) (other : A) → other ≡ if_remark x held other
-no_remark x h held other = left_out (case_remark x held other) (tags_but 7) (λ b. miss (tags_but 7) 7 tt) h
+pub no_remark : {A : Type 0} (x : Word) → (x ≡ Remark → ⊥) → (held : A) (other : A) → other ≡ if_remark x held other
+no_remark x h held other = left_out (case_remark x held other) (λ _. h)
 
 pub is_remark : {A : Type 0} (x : Word) (held : A) (other r : A) → if_remark x held other ≡ r → (other ≡ r → ⊥) → (x ≡ Remark) × (held ≡ r)
 is_remark x held other r e apart = let h = from_held (case_remark x held other) e apart in (h.1, h.2)

@@ -19,6 +19,7 @@ down (suc n) = ap (λ (k : ℕ). negsuc (suc k)) (go n)
     go a = omega arith
 
 less : (b m : ℕ) → b < m → pos b -ℤ pos m ≡ negsuc (m - suc b)
+less b zero h = elim h [ ]
 less b (suc m) h = simp (lt-ltb _ _ h)
 
 module _ (half b : ℕ) (small : half ≤ 2147483648) (in-width : b < 2 * half) where

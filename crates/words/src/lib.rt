@@ -1,9 +1,11 @@
 // A 32-bit word of a list or a log: its kind in the top 4 bits, and what the other 28 hold.
+#![tactic(auto)]
+
 ghost use Rattle.std.specs.Prelude.{◌≡◌, ◌<◌, ◌≤◌, ◌*◌, ◌%◌};
 ghost use Rattle.words.specs.Words.{twos, datum_word, word_of, word_at};
 
 // A word taken apart. Other: a word that no list and no log can hold.
-#[derive(Drop)]
+#[derive(Clone, Copy)]
 pub enum Word {
     // the number that a list head holds
     Head(u32),

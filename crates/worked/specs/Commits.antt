@@ -4,7 +4,7 @@ use Rattle.machine_data.specs.declared.MachineData.{MachineData}
 use Rattle.list.specs.Reading.{read_list}
 use Rattle.channel.specs.Cycle.{fresh_channel}
 use Rattle.demand_3.specs.Calls
-use Rattle.demand_3.specs.Calls.{Call, as-b, Words, Answers}
+use Rattle.demand_3.specs.Calls.{Call, as_b, Words, Answers}
 use Rattle.demand_3.specs.History.{all_commits}
 use Rattle.worked.specs.Runs.{cycles_with}
 use Rattle.worked.specs.Wordings.{timed, oversped}
@@ -42,7 +42,7 @@ abbrev pub ask : List ℕ → Call
 ask words = let g = cycles_with slow oversped 2 in Calls.asks words g.reading g.report
 
 abbrev pub empty_log : Call
-empty_log = Calls.logged as-b (fresh_channel slow) [] []
+empty_log = Calls.logged as_b (fresh_channel slow) [] []
 
 -- a list with time 0 is committed before cycle 2
 unfoldable pub committing : List Call

@@ -17,7 +17,7 @@ use Rattle.channel.specs.Cycle.{with_list, fresh_channel}
 use Rattle.channel.specs.Word.{word}
 use Rattle.device.specs.Device.{device_of}
 use Rattle.demand_3.specs.Calls
-use Rattle.demand_3.specs.Calls.{Call, as-b, Words, Answers}
+use Rattle.demand_3.specs.Calls.{Call, as_b, Words, Answers}
 use Rattle.demand_3.specs.History.{history}
 use Rattle.runs.specs.Running.{window}
 use Rattle.demand_3.specs.Claims
@@ -108,7 +108,7 @@ abbrev pub beside : Channel
 beside = with_list list (history list (cs list moving) 2)
 
 unfoldable pub calls : List Call
-calls = Calls.single (cs list moving 0) 0 ∷ Calls.single (cs list moving 1) 0 ∷ Calls.logged as-b beside (record_words 401 ++ record_words 401) (replicate 6 0) ∷ []
+calls = Calls.single (cs list moving 0) 0 ∷ Calls.single (cs list moving 1) 0 ∷ Calls.logged as_b beside (record_words 401 ++ record_words 401) (replicate 6 0) ∷ []
 
 abbrev pub words : ℕ → ℕ → Words
 words channel device = record { channel = channel; device = device }

@@ -1,0 +1,49 @@
+// The functions of axis_logs under their C names, as include/axis_monitor.h declares them.
+#![tactic(auto)]
+
+ghost use Rattle.std.specs.Prelude.{◌≡◌, ◌≤◌, length};
+ghost use Rattle.numerals.specs.Written.{written};
+ghost use Rattle.kit_run.specs.KitRun.{kit_ran};
+ghost use Rattle.listing.specs.Listing.{listed, cycles_of, told_of};
+ghost use Rattle.axis_logs.specs.Left.{left_by_log, log_over};
+
+use image::Image;
+use machine_data::Values;
+
+// A log over two channels, whatever data their pending lists have: 0 and the number of cycles, or the refusal's number and place,
+// with the states and the output as they were.
+#[unsafe(no_mangle)]
+pub extern "C" fn monitor_run_log(
+    values_a: &Values,
+    state_a: &mut Image,
+    values_b: &Values,
+    state_b: &mut Image,
+    words: &[u32],
+    out: &mut [u32],
+    at: &mut usize,
+) -> u32
+    ensures { left_by_log values_a.now values_b.now result state_a.new state_b.new out.new at.new ≡ log_over values_a.now state_a.old values_b.now state_b.old words.now out.old }
+{
+    axis_logs::monitor_run_log(values_a, state_a, values_b, state_b, words, out, at)
+}
+
+// The bench's text for a kit: its length; where the buffer has room the text stands at its front.
+#[unsafe(no_mangle)]
+pub extern "C" fn monitor_list_kit(kit: &[u8], out: &mut [u8]) -> usize
+    ensures value { result ≡ length (listed kit.now) }
+    ensures out_after { out.new ≡ written 0 (listed kit.now) out.old }
+    ensures upper_bound { result ≤ 74880 }
+{
+    axis_logs::monitor_list_kit(kit, out)
+}
+
+// A kit's words run over two fresh channels: the number of cycles, with their words at the output's front. In `told` 0, or
+// where the kit is refused the refusal's number, its place, and the letter of the part.
+#[unsafe(no_mangle)]
+pub extern "C" fn monitor_run_kit(words: &[u32], out: &mut [u32], told: &mut [u64; 3]) -> usize
+    ensures value { result ≡ cycles_of (kit_ran words.now out.old).answer }
+    ensures out_after { out.new ≡ (kit_ran words.now out.old).out }
+    ensures told_after { told.new ≡ told_of (kit_ran words.now out.old).answer }
+{
+    axis_logs::monitor_run_kit(words, out, told)
+}

@@ -1,0 +1,11 @@
+-- `logs::run_log` meets its contract. Assumes nothing.
+use mathlib.Core.Path.{ap}
+use Rattle.machine_data.specs.declared.MachineData.{MachineData}
+use Rattle.logs.specs.Run.{Ran}
+use Rattle.logs.proofs.run_log.Goals as goal
+
+pub returns : goal.returns
+returns c =
+    let a = c.args in
+    simp (c.after_cycles.ensures, c.after_cycles-2.ensures, c.cycles-cycles.ensures)
+    (ap (λ (f : MachineData → MachineData → Ran). f a.a.pending a.b.pending) c.run_on-ran.ensures)

@@ -51,9 +51,9 @@ module _ (read : List ℕ → ListRead) (stops : Cause13) (nx : Nx) (guard : Gua
       (record { read_a = alike words kit.list_a; read_b = λ n ea. alike (drop n words) (kit.list_b n ea); along = λ n m ea eb rs _. along_read _ _ _ rs })
 
 -- a kit with heads that are also among later ones
-module _ {heads later : List ℕ} (IsAmong-later : (s : List ℕ) → Headed heads s → Headed later s) where
+module _ {heads later : List ℕ} (among_later : (s : List ℕ) → Headed heads s → Headed later s) where
   later_kit : (words : List ℕ) → HeadedKit heads words → HeadedKit later words
-  later_kit words kit = record { list_a = IsAmong-later words kit.list_a; list_b = λ n ea. IsAmong-later (drop n words) (kit.list_b n ea) }
+  later_kit words kit = record { list_a = among_later words kit.list_a; list_b = λ n ea. among_later (drop n words) (kit.list_b n ea) }
 
 -- a head that is 51 is one of 51 and 67, and one of these is one of 51, 67 and 69
 later_67 : (s : List ℕ) → Headed heads51 s → Headed heads67 s

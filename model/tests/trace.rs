@@ -181,7 +181,13 @@ fn declared(text: &str) -> impl Iterator<Item = &str> {
     })
 }
 
-/// A function of a source: its name, whether it is public, and whether it ensures something.
+/// The function whose result a line `ghost from_gives = ..` tells: `from`, of an `impl From`.
+fn given(line: &str) -> Option<&str> {
+    let (name, _) = line.strip_prefix("ghost ")?.split_once("_gives = ")?;
+    Some(name)
+}
+
+/// A function of a source: its name, whether it is public, and whether it ensures something, or a line above tells its result.
 struct Function<'a> {
     name: &'a str,
     public: bool,
@@ -190,16 +196,19 @@ struct Function<'a> {
 
 fn functions(source: &str) -> Vec<Function<'_>> {
     let mut found: Vec<Function> = Vec::new();
+    let mut told = None;
     for line in source.lines().map(str::trim_start) {
+        told = given(line).or(told);
         let item = behind(
             line.strip_prefix("pub ").unwrap_or(line),
             &["extern \"C\" "],
         );
         if let Some(rest) = item.strip_prefix("fn ") {
+            let name = name(rest);
             found.push(Function {
-                name: name(rest),
+                name,
                 public: line.starts_with("pub "),
-                ensures: false,
+                ensures: told.take() == Some(name),
             });
         } else if line.starts_with("ensures ") {
             if let Some(function) = found.last_mut() {
@@ -724,4 +733,12 @@ fn names_are_read_from_definitions_and_sources() {
     let functions: Vec<_> = functions(source).iter().map(told).collect();
     let expected = [("f", true, true), ("g", true, false), ("h", false, false)];
     assert_eq!(functions, expected.map(|(n, p, e)| (n.to_string(), p, e)));
+}
+
+/// What a `From` gives stands above its function, and tells of that one only.
+#[test]
+fn a_conversion_ensures_what_it_gives() {
+    let source = "impl From<A> for B {\n    ghost from_gives = { f };\n\n    fn from(a: A) -> B {\n}\nimpl From<C> for D {\n    fn from(c: C) -> D {\n";
+    let ensuring: Vec<bool> = functions(source).iter().map(|f| f.ensures).collect();
+    assert_eq!(ensuring, [true, false]);
 }

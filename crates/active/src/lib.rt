@@ -9,20 +9,17 @@ use machine_data::{Values, functions};
 use selection::Selection;
 
 // Whether one of SBH, SG, SE and cams is active, by the selection that is effective in this cycle.
+#[tactic(auto, unfolding(crate::specs::Active::active))]
 pub fn active(values: &Values, effective: Selection) -> bool
     ensures { result ≡ active values.now effective }
 {
-    match effective {
-        Selection::Nothing => {
-            machine_data::function(values, functions::SE)
-                || machine_data::function(values, functions::CAMS)
-        }
-        Selection::Sg(_, _) => true,
-        Selection::Sbh => true,
-    }
+    effective.is_effective()
+        || machine_data::function(values, functions::SE)
+        || machine_data::function(values, functions::CAMS)
 }
 
 // Cause 13.
+#[tactic(auto, unfolding(crate::specs::Active::fault_stops))]
 pub fn fault_stops(values: &Values, effective: Selection, fault: Fault) -> bool
     ensures { result ≡ fault_stops values.now effective fault }
 {

@@ -1,7 +1,6 @@
 -- What a cycle leaves, by what steps 2 to 4 found: document 01, steps 1, 5 and 6, and "Channel word", W3 and W6.
-use Rattle.std.specs.Prelude.{ℕ, Bool, false, not, ◌&&◌, List, ℤ}
+use Rattle.std.specs.Prelude.{ℕ, Bool, false, not, ◌&&◌, List, ℤ, None, Some}
 use Rattle.machine_data.specs.declared.MachineData.{MachineData}
-use Rattle.distance.specs.declared.Previous.TheVariants.{Absent, At}
 use Rattle.report.specs.Report.{next_k}
 use Rattle.speed.specs.Speed.{slower}
 use Rattle.rank.specs.declared.Rank.{Rank}
@@ -19,7 +18,7 @@ use Rattle.advance.specs.declared.Advanced.{Advanced}
 -- "Unusable: cause 1, rank 5, not held. The previous position is forgotten; counts, runs, F, selections, references and cams stay; steps 2 to 5 are
 -- skipped"; W3, of n<nx: "leaves value and run as they were"; W6: only usable cycles count; "k .. rises by one each cycle"
 abbrev pub unusable_next : ℕ → State → State
-unusable_next count s = record { k = next_k count s.k; kept = s.kept; stop = Cancelled; previous = Absent }
+unusable_next count s = record { k = next_k count s.k; kept = s.kept; stop = Cancelled; previous = None }
 
 -- steps 5 and 6, by what steps 2 to 4 found, whether the cycle clears, and the strongest cause
 abbrev pub usable_next : MachineData → State → Given → Findings → Bool → Rank → State
@@ -36,7 +35,7 @@ usable_next m s g f clears strongest =
             directions = f.directions;
           };
       stop = stop_next m.values clears strongest (slower m.values f.step 33) g.reading.position s.stop;
-      previous = At g.reading.position;
+      previous = Some g.reading.position;
     }
 
 -- "A cycle clears if it is acknowledged and has no fresh cause"

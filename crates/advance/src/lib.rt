@@ -3,13 +3,12 @@
 #![tactic(auto)]
 
 ghost use Rattle.std.specs.Prelude.{◌≡◌};
-ghost use Rattle.machine_data.specs.Data.{lent};
+ghost use Rattle.machine_data.specs.Data.{list_of};
 ghost use Rattle.advance.specs.After.{clears_by, next_by, unusable_next, shown_word, advanced_by, advanced_unusable};
 
 use causes::Summary;
-use distance::Previous;
 use judge::Findings;
-use machine_data::Values;
+use machine_data::{Lent, Values};
 use state::{Given, Kept, State};
 use stop::Stop;
 
@@ -23,46 +22,31 @@ pub struct Advanced {
 fn clears(given: Given, summary: Summary) -> bool
     ensures { result ≡ clears_by given summary }
 {
-    if given.acknowledged {
-        !summary.fresh
-    } else {
-        false
-    }
+    given.acknowledged && !summary.fresh
 }
 
 // Steps 5 and 6 of a usable cycle.
-fn usable(
-    values: &Values,
-    count: usize,
-    state: State,
-    given: Given,
-    findings: Findings,
-    summary: Summary,
-) -> State
-    ensures { result ≡ next_by (lent values.now count) state given findings summary }
+fn usable(list: Lent, state: State, given: Given, findings: Findings, summary: Summary) -> State
+    ensures { result ≡ next_by (list_of list.entry) state given findings summary }
 {
+    let values = list.values;
     let reading = given.reading;
-    let kept = state.kept;
-    let stop = state.stop;
-    let choice = findings.choice;
-    let fault = findings.fault;
-    let nx = findings.nx;
-    let directions = findings.directions;
-    let strongest = summary.strongest;
     let clears = clears(given, summary);
-    let after = stop.next(values, clears, strongest, findings.step, reading);
+    let stop = state
+        .stop
+        .next(values, clears, summary.strongest, findings.step, reading);
     State {
-        k: report::next_k(count, state.k),
+        k: report::next_k(list.count, state.k),
         kept: Kept {
-            cams: cams::next(values, reading, kept.cams),
-            choice,
+            cams: cams::next(values, reading, state.kept.cams),
+            choice: findings.choice,
             differing: findings.differing,
-            fault: fault.cleared(clears),
-            nx,
-            directions,
+            fault: findings.fault.cleared(clears),
+            nx: findings.nx,
+            directions: findings.directions,
         },
-        stop: after,
-        previous: Previous::At(reading.position),
+        stop,
+        previous: Some(reading.position),
     }
 }
 
@@ -70,12 +54,11 @@ fn usable(
 fn unusable(count: usize, state: State) -> State
     ensures { result ≡ unusable_next count state }
 {
-    let kept = state.kept;
     State {
         k: report::next_k(count, state.k),
-        kept,
+        kept: state.kept,
         stop: Stop::Cancelled,
-        previous: Previous::Absent,
+        previous: None,
     }
 }
 
@@ -84,40 +67,40 @@ fn word(values: &Values, state: State, nx: bool) -> u32
     ensures { result ≡ shown_word values.now state nx }
 {
     let kept = state.kept;
-    let choice = kept.choice;
-    let effective = choice.effective;
-    let fault = kept.fault;
-    let stop = state.stop;
-    channel_word::channel_word(values, effective, stop, fault.on, kept.cams, nx)
+    channel_word::channel_word(
+        values,
+        kept.choice.effective,
+        state.stop,
+        kept.fault.on,
+        kept.cams,
+        nx,
+    )
 }
 
 // A cycle by what steps 2 to 4 found, and what step 5 asks of its causes.
 pub fn found(
-    values: &Values,
-    count: usize,
+    list: Lent,
     state: State,
     given: Given,
     findings: Findings,
     summary: Summary,
 ) -> Advanced
-    ensures { result ≡ advanced_by (lent values.now count) state given findings summary }
+    ensures { result ≡ advanced_by (list_of list.entry) state given findings summary }
 {
-    let after = usable(values, count, state, given, findings, summary);
-    let kept = after.kept;
-    let nx = kept.nx;
+    let after = usable(list, state, given, findings, summary);
     Advanced {
         state: after,
-        word: word(values, after, nx.on),
+        word: word(list.values, after, after.kept.nx.on),
     }
 }
 
 // A cycle that cannot be used.
-pub fn skipped(values: &Values, count: usize, state: State) -> Advanced
-    ensures { result ≡ advanced_unusable (lent values.now count) state }
+pub fn skipped(list: Lent, state: State) -> Advanced
+    ensures { result ≡ advanced_unusable (list_of list.entry) state }
 {
-    let after = unusable(count, state);
+    let after = unusable(list.count, state);
     Advanced {
         state: after,
-        word: word(values, after, false),
+        word: word(list.values, after, false),
     }
 }

@@ -2,9 +2,9 @@
 use mathlib.Core.Path.{◌≡◌, refl, sym, ap, ◌∙◌}
 use mathlib.Core.Bool.{Bool, true, false, not, cond, ◌&&◌, true≢false}
 use mathlib.Core.List.{List}
+use Rattle.std.specs.Prelude.{None}
 use Rattle.machine_data.specs.declared.MachineData.{MachineData}
 use Rattle.stop.specs.declared.Stop.TheVariants.{Cancelled}
-use Rattle.distance.specs.declared.Previous.TheVariants.{Absent}
 use Rattle.usable_inputs.specs.Usable.{bits_usable, usable_of}
 use Rattle.speed.specs.declared.Step.{Step}
 use Rattle.nx_signal.specs.Signal.{signal_next}
@@ -118,7 +118,7 @@ module _ (p q : Rules) (m : MachineData) (s : State) (g : Given) where
     pub next_same : next_under p m s g ≡ next_under q m s g
     next_same =
         ways (p.usable m g.reading) (q.usable m g.reading) same.usable usable_next_same
-        (λ i. record { k = same.rise i; kept = s.kept; stop = Cancelled; previous = Absent })
+        (λ i. record { k = same.rise i; kept = s.kept; stop = Cancelled; previous = None })
 
     -- its word
     pub word_same : word_under p m s g ≡ word_under q m s g

@@ -9,6 +9,7 @@ use borrow.Author.Tests.{lt-ltb, le-leb, eq-eqb, ltb-true, ltb-false, eqb-true, 
 use lib.ListN.{get_or, drop}
 use lib.IntN.{ℤ, pos, nat_abs, ◌-ℤ◌}
 use lib.Dec.{T, leb, ltb, eqb}
+use Rattle.std.specs.Prelude.{Ok}
 use Rattle.laws.proofs.Bools.{and_false}
 use Rattle.bits.specs.Bits.{field_of}
 use Rattle.ranges.specs.Table.{data_count}
@@ -27,7 +28,6 @@ use Rattle.state.specs.declared.State.{State}
 use Rattle.state.specs.declared.Given.{Given}
 use Rattle.seven.specs.declared.CycleRecord.{CycleRecord}
 use Rattle.judge.specs.Causes.{rows_of}
-use Rattle.list.specs.declared.ListAnswer as A
 use Rattle.list.specs.Rules.{among}
 use Rattle.list.specs.Reading.{read_list}
 use Rattle.channel.specs.declared.Channel.{Channel}
@@ -137,7 +137,7 @@ module _ (m : MachineData) (h : Headed51 m) where
       simp (eq-eqb m.count o.head same) (ap (λ (z : ℤ). ltb 0 (nat_abs (z -ℤ o.datum))) (entry_51 k))
 
 -- so one that has no later head is headed 51
-pub headed : (s : List ℕ) (n : ℕ) → Headed heads51 s → (read_list s).answer ≡ A.TheVariants.Accepted n → Headed51 (read_list s).list
+pub headed : (s : List ℕ) (n : ℕ) → Headed heads51 s → (read_list s).answer ≡ Ok n → Headed51 (read_list s).list
 headed s n earlier e =
     let x = short heads51 s n earlier e in
     let count = one_of (read_list s).list.count x.0 in

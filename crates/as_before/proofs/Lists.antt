@@ -11,7 +11,9 @@ use lib.Dec.{T, leb, ltb, eqb, ltb→lt}
 use lib.Ieee.Bits.{is_true}
 use lib.Ieee.Fits.{and_l, and_r}
 use borrow.Author.Tests.{lt-ltb, le-ltb, le-leb, lt-leb, leb-true, ltb-true, ltb-false, ne_eqb, eqb-true, eqb-false}
+use Rattle.std.specs.Prelude.{Result, Ok, Err}
 use Rattle.laws.proofs.Bools.{or_left, or_right, and_false}
+use Rattle.refusal.specs.declared.Refusal.{Refusal}
 use Rattle.refusal.specs.declared.Refusal.TheVariants.{WrongWord, OutOfRange}
 use Rattle.words.specs.declared.Word.{Word}
 use Rattle.words.specs.declared.Word.TheVariants as W
@@ -20,9 +22,7 @@ use Rattle.words.specs.Cases.{if_head}
 use Rattle.bits.specs.Bits.{bit_of}
 use Rattle.ranges.specs.Table.{data_count, Row, base_rows, gear_rows, nx_rows, direction_rows, rows, row_of, in_range, allowed}
 use Rattle.machine_data.specs.Data.{nearest, datum_of, size, number_of, function_of}
-use Rattle.datum.specs.declared.DatumRead as R
-use Rattle.datum.specs.declared.Units as U
-use Rattle.datum.specs.declared.DatumAnswer as D
+use Rattle.datum.specs.declared.Datum.{Datum}
 use Rattle.datum.specs.Datum.{of_units, of_read, units_of, datum_at, value_at}
 use Rattle.list.specs.declared.ListRead.{ListRead}
 use Rattle.list.specs.Rules.{among, is_head}
@@ -116,13 +116,13 @@ module _ (front more : List Row) (whole : gear_rows ++ nx_rows ++ direction_rows
     unfolding value_at value_by
     value_by_lem s k at has l = by_read (datum_at s k at)
       where
-        by_units : (next : ℕ) (u : U.Units) → of_units n k at next u ≡ of_units_by table k at next u
-        by_units next (U.TheVariants.Are z) = ap (λ (t : Bool). cond t (D.TheVariants.Value z next) (D.TheVariants.Refused (OutOfRange at))) (in_range_by_lem k has l z)
-        by_units next (U.TheVariants.Refused why) = refl
+        by_units : (next : ℕ) (u : Result ℤ Refusal) → of_units n k at next u ≡ of_units_by table k at next u
+        by_units next (Ok z) = ap (λ (t : Bool). cond {A = Result (ℤ × ℕ) Refusal} t (Ok (z, next)) (Err (OutOfRange at))) (in_range_by_lem k has l z)
+        by_units next (Err why) = refl
 
-        by_read : (r : R.DatumRead) → of_read n k at r ≡ of_read_by table k at r
-        by_read (R.TheVariants.Datum d next) = by_units next (units_of d at)
-        by_read (R.TheVariants.Bad place) = refl
+        by_read : (r : Result (Datum × ℕ) ℕ) → of_read n k at r ≡ of_read_by table k at r
+        by_read (Ok (d, next)) = by_units next (units_of d at)
+        by_read (Err place) = refl
 
   -- ---- the data one by one
 
@@ -131,14 +131,14 @@ module _ (front more : List Row) (whole : gear_rows ++ nx_rows ++ direction_rows
     unfolding gather gather_by
     gather_by_lem zero s k at vs c = refl
     gather_by_lem (suc i) s k at vs c =
-        ap (λ (t : D.DatumAnswer). on_value t (λ z next. gather n i s (k + 1) next (set vs k z)))
+        ap (λ (t : Result (ℤ × ℕ) Refusal). on_value t (λ z next. gather n i s (k + 1) next (set vs k z)))
         (value_by_lem n short s k at (reaches_down table (n - 1) k (omega (arith, c)) has) (omega (arith, c, l)))
         ∙ go (value_by table s k at) (λ z next. gather_by_lem i s (k + 1) next (set vs k z) (omega (arith, c)))
       where
-        go : (t : D.DatumAnswer) → ((z : ℤ) (next : ℕ) → gather n i s (k + 1) next (set vs k z) ≡ gather_by table i s (k + 1) next (set vs k z)) →
+        go : (t : Result (ℤ × ℕ) Refusal) → ((z : ℤ) (next : ℕ) → gather n i s (k + 1) next (set vs k z) ≡ gather_by table i s (k + 1) next (set vs k z)) →
             on_value t (λ z next. gather n i s (k + 1) next (set vs k z)) ≡ on_value t (λ z next. gather_by table i s (k + 1) next (set vs k z))
-        go (D.TheVariants.Value z next) rest = rest z next
-        go (D.TheVariants.Refused why) rest = refl
+        go (Ok (z, next)) rest = rest z next
+        go (Err why) rest = refl
 
   -- ---- the head
 

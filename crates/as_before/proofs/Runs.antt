@@ -5,6 +5,8 @@ use mathlib.Core.Path.{◌≡◌, refl, ap, ◌∙◌}
 use mathlib.Core.Bool.{Bool, cond}
 use mathlib.Core.List.{List, [], ◌∷◌, ◌++◌}
 use lib.ListN.{length, drop}
+use Rattle.std.specs.Prelude.{Result, Ok, Err}
+use Rattle.refusal.specs.declared.Refusal.{Refusal}
 use Rattle.refusal.specs.declared.Refusal.TheVariants.{WrongLog}
 use Rattle.refusal.specs.declared.Part.TheVariants.{Log}
 use Rattle.machine_data.specs.declared.MachineData.{MachineData}
@@ -14,12 +16,10 @@ use Rattle.records.specs.Records.{LogRead, records, fault, log_of}
 use Rattle.state.specs.State.{fresh_state}
 use Rattle.device.specs.Device.{device_of}
 use Rattle.list.specs.declared.ListRead.{ListRead}
-use Rattle.list.specs.declared.ListAnswer as A
 use Rattle.list.specs.Reading.{read_list}
 use Rattle.kit.specs.Kit.{first, second, read_kit}
 use Rattle.channel.specs.declared.Channel.{Channel}
 use Rattle.channel.specs.Cycle.{after_cycles}
-use Rattle.logs.specs.declared.LogAnswer.TheVariants.{Accepted}
 use Rattle.logs.specs.Run.{Both, given_a, given_b, device_cycle, last_of, lines_of, both_of, running}
 use Rattle.kit_bytes.specs.KitBytes.{whole_words, words_of}
 use Rattle.listing.specs.Listing.{Said, refused, by_log, by_lists, said_of, said, text_of, listed}
@@ -87,15 +87,15 @@ module _ (p q : Rules) where
   running_same a b out rs h =
       let last = last_same a.list b.list (both_of a b) rs h in
       let lines = lines_same a.list b.list (both_of a b) rs h in
-      λ i. record { answer = Accepted (length rs); a = after_cycles (length rs) a (last i).a; b = after_cycles (length rs) b (last i).b; out = lines i ++ drop (3 * length rs) out }
+      λ i. record { answer = Ok (length rs); a = after_cycles (length rs) a (last i).a; b = after_cycles (length rs) b (last i).b; out = lines i ++ drop (3 * length rs) out }
 
   -- ---- a kit
 
   -- in the reading of its lists, and in each cycle of its run
   pub record AgreeKit (words : List ℕ) : Type 0 where
     pub read_a : p.read words ≡ q.read words
-    pub read_b : (n : ℕ) → (p.read words).answer ≡ A.TheVariants.Accepted n → p.read (drop n words) ≡ q.read (drop n words)
-    pub along : (n m : ℕ) → (p.read words).answer ≡ A.TheVariants.Accepted n → (p.read (drop n words)).answer ≡ A.TheVariants.Accepted m →
+    pub read_b : (n : ℕ) → (p.read words).answer ≡ Ok n → p.read (drop n words) ≡ q.read (drop n words)
+    pub along : (n m : ℕ) → (p.read words).answer ≡ Ok n → (p.read (drop n words)).answer ≡ Ok m →
         (rs : List CycleRecord) → log_of (drop (n + m) words) ≡ records rs →
         AgreeAlong (p.read words).list (p.read (drop n words)).list (record { a = fresh_state; b = fresh_state }) rs
 
@@ -109,18 +109,18 @@ module _ (p q : Rules) where
     answer_a = ap (λ (r : ListRead). r.answer) h.read_a
 
     -- behind list A of n words
-    by_b : (n : ℕ) → (p.read words).answer ≡ A.TheVariants.Accepted n → (t : A.ListAnswer) → (p.read (drop n words)).answer ≡ t →
+    by_b : (n : ℕ) → (p.read words).answer ≡ Ok n → (t : Result ℕ Refusal) → (p.read (drop n words)).answer ≡ t →
         second_under p words n (p.read words).list (p.read (drop n words)) t ≡ second_under q words n (q.read words).list (q.read (drop n words)) t
-    by_b n ea (A.TheVariants.Accepted m) eb =
+    by_b n ea (Ok m) eb =
         log_same (p.read words).list (p.read (drop n words)).list (log_of (drop (n + m) words)) (h.along n m ea eb)
         ∙ (λ i. log_under q (h.read_a i).list (h.read_b n ea i).list (log_of (drop (n + m) words)))
-    by_b n ea (A.TheVariants.Refused why) eb = refl
+    by_b n ea (Err why) eb = refl
 
-    by_a : (t : A.ListAnswer) → (p.read words).answer ≡ t → first_under p words (p.read words) t ≡ first_under q words (q.read words) t
-    by_a (A.TheVariants.Accepted n) ea =
+    by_a : (t : Result ℕ Refusal) → (p.read words).answer ≡ t → first_under p words (p.read words) t ≡ first_under q words (q.read words) t
+    by_a (Ok n) ea =
         by_b n ea (p.read (drop n words)).answer refl
         ∙ ap (second_under q words n (q.read words).list (q.read (drop n words))) (ap (λ (r : ListRead). r.answer) (h.read_b n ea))
-    by_a (A.TheVariants.Refused why) ea = refl
+    by_a (Err why) ea = refl
 
     said_same : said_under p words ≡ said_under q words
     said_same = by_a (p.read words).answer refl ∙ ap (first_under q words (q.read words)) answer_a
@@ -153,20 +153,20 @@ pub running_now : (a b : Channel) (out : List ℕ) (rs : List CycleRecord) → r
 running_now a b out rs =
     let last = last_now a.list b.list (both_of a b) rs in
     let lines = lines_now a.list b.list (both_of a b) rs in
-    λ i. record { answer = Accepted (length rs); a = after_cycles (length rs) a (last i).a; b = after_cycles (length rs) b (last i).b; out = lines i ++ drop (3 * length rs) out }
+    λ i. record { answer = Ok (length rs); a = after_cycles (length rs) a (last i).a; b = after_cycles (length rs) b (last i).b; out = lines i ++ drop (3 * length rs) out }
 
 log_now : (da db : MachineData) (l : LogRead) → by_log da db l ≡ log_under now da db l
 log_now da db (records rs) = ap Said.ran (lines_now da db (record { a = fresh_state; b = fresh_state }) rs)
 log_now da db (fault place) = refl
 
 module _ (words : List ℕ) where
-  second_now : (n : ℕ) (a : MachineData) (r : ListRead) (t : A.ListAnswer) → by_lists words (second n a r t) (second n a r t).answer ≡ second_under now words n a r t
-  second_now n a r (A.TheVariants.Accepted m) = log_now a r.list (log_of (drop (n + m) words))
-  second_now n a r (A.TheVariants.Refused why) = refl
+  second_now : (n : ℕ) (a : MachineData) (r : ListRead) (t : Result ℕ Refusal) → by_lists words (second n a r t) (second n a r t).answer ≡ second_under now words n a r t
+  second_now n a r (Ok m) = log_now a r.list (log_of (drop (n + m) words))
+  second_now n a r (Err why) = refl
 
-  first_now : (r : ListRead) (t : A.ListAnswer) → by_lists words (first words r t) (first words r t).answer ≡ first_under now words r t
-  first_now r (A.TheVariants.Accepted n) = second_now n r.list (read_list (drop n words)) (read_list (drop n words)).answer
-  first_now r (A.TheVariants.Refused why) = refl
+  first_now : (r : ListRead) (t : Result ℕ Refusal) → by_lists words (first words r t) (first words r t).answer ≡ first_under now words r t
+  first_now r (Ok n) = second_now n r.list (read_list (drop n words)) (read_list (drop n words)).answer
+  first_now r (Err why) = refl
 
   said_now : said_of words ≡ said_under now words
   unfolding said_of read_kit

@@ -11,6 +11,7 @@ use lib.IntN.{ℤ, pos, negsuc}
 use lib.Signed.{le_z}
 use lib.Dec.{T, eqb, leb→le}
 use lib.Ieee.Fits.{and_r}
+use Rattle.std.specs.Prelude.{Ok}
 use Rattle.bits.specs.Bits.{bit_of}
 use Rattle.words.proofs.Front.{front_reads}
 use Rattle.ranges.specs.Table.{in_range, most_functions, allowed}
@@ -18,7 +19,6 @@ use Rattle.ranges.proofs.Tests.{allowed_in}
 use Rattle.machine_data.specs.declared.MachineData.{MachineData}
 use Rattle.machine_data.specs.Data.{datum_of, size, number_of, function_of, InRanges}
 use Rattle.machine_data.proofs.Stands.{as_stands}
-use Rattle.list.specs.declared.ListAnswer as A
 use Rattle.list.specs.Rules.{among}
 use Rattle.list.specs.IsList.{IsList, list}
 use Rattle.list.specs.Reading.{read_list}
@@ -27,7 +27,7 @@ use Rattle.list.proofs.Accepts.{accepted, whole_answer, lacking, in_ranges}
 use Rattle.as_before.specs.Kept.{Headed}
 use Rattle.as_before.proofs.Lists.{all_below_lem, below}
 
-module _ (heads s : List ℕ) (n : ℕ) (earlier : Headed heads s) (e : (read_list s).answer ≡ A.TheVariants.Accepted n) where
+module _ (heads s : List ℕ) (n : ℕ) (earlier : Headed heads s) (e : (read_list s).answer ≡ Ok n) where
   pub short : T (among (read_list s).list.count heads) × (51 ≤ (read_list s).list.count) × ((k : ℕ) → (read_list s).list.count ≤ k → get_or (read_list s).list.values k (pos 0) ≡ pos 0)
   short = of_list ((accepted s (read_list s).list n).0 (whole_answer s n e)).1 (take-append-drop n s)
     where
@@ -52,7 +52,7 @@ short_undirected m two short within =
     let stands = as_stands m.values 1 (allowed_in m.count 1 z (within 1 two)) in
     ne_eqb (number_of m.values 1 / 2 ^ 5 % 2) 1 (λ e. omega (arith, e, few m.values z stands (simp (lt-leb 72 m.count short) at most)))
 
-pub undirected : (heads : List ℕ) → T (all_below_lem heads) → (s : List ℕ) (n : ℕ) → Headed heads s → (read_list s).answer ≡ A.TheVariants.Accepted n →
+pub undirected : (heads : List ℕ) → T (all_below_lem heads) → (s : List ℕ) (n : ℕ) → Headed heads s → (read_list s).answer ≡ Ok n →
     function_of (read_list s).list.values 5 ≡ false
 undirected heads low s n earlier e =
     let x = short heads s n earlier e in

@@ -9,6 +9,7 @@ use borrow.Author.Tests.{eqb-true}
 use lib.ListN.{get_or, drop}
 use lib.IntN.{pos}
 use lib.Dec.{T, eqb}
+use Rattle.std.specs.Prelude.{Ok}
 use Rattle.machine_data.specs.declared.MachineData.{MachineData}
 use Rattle.machine_data.proofs.Lacks.{lacks}
 use Rattle.nx_signal.proofs.Steady.{as_before}
@@ -17,7 +18,6 @@ use Rattle.seven.specs.declared.CycleRecord.{CycleRecord}
 use Rattle.state.specs.declared.State.{State}
 use Rattle.state.specs.declared.Given.{Given}
 use Rattle.judge.specs.Causes.{rows_of}
-use Rattle.list.specs.declared.ListAnswer as A
 use Rattle.list.specs.Rules.{among}
 use Rattle.list.specs.Reading.{read_list}
 use Rattle.channel.specs.declared.Channel.{Channel}
@@ -49,7 +49,7 @@ pub unsteadied_51 : (m : MachineData) → Headed51 m → Unsteadied m
 unsteadied_51 m h = short_unsteadied m (omega (arith, h.count)) (λ k l. h.lacks k (omega (arith, h.count, l)))
 
 -- an accepted list headed 51 or 67
-pub unsteadied_67 : (s : List ℕ) (n : ℕ) → Headed heads67 s → (read_list s).answer ≡ A.TheVariants.Accepted n → Unsteadied (read_list s).list
+pub unsteadied_67 : (s : List ℕ) (n : ℕ) → Headed heads67 s → (read_list s).answer ≡ Ok n → Unsteadied (read_list s).list
 unsteadied_67 s n earlier e =
     let x = short heads67 s n earlier e in
     short_unsteadied (read_list s).list (at_most (read_list s).list.count x.0) x.2

@@ -1,9 +1,8 @@
 -- A cycle under any rules. They give the ratio, causes 12 and 13, the directions and which rows of the table a cycle has; all else is as it is now. n<nx
 -- goes on in the state, whatever the rules show of it. That the comparisons of a step of 1 to 1 are document 01's is `too_fast_51` and
 -- `slower_51` in proofs/Headed51.antt; and data 0 to 50 are read by its table, `datum_51` in proofs/Lists.antt.
-use Rattle.std.specs.Prelude.{ℕ, Bool, true, not, cond, ◌&&◌, List, [], ◌∷◌}
+use Rattle.std.specs.Prelude.{ℕ, Bool, true, not, cond, ◌&&◌, List, [], ◌∷◌, None}
 use Rattle.machine_data.specs.declared.MachineData.{MachineData}
-use Rattle.distance.specs.declared.Previous.TheVariants.{Absent}
 use Rattle.distance.specs.Step.{moved_from}
 use Rattle.speed.specs.declared.Step.{Step}
 use Rattle.nx_signal.specs.Signal.{signal_next}
@@ -84,7 +83,7 @@ module _ (rules : Rules) (m : MachineData) (s : State) (g : Given) where
   abbrev pub next_under : State
   next_under =
       cond (rules.usable m g.reading) usable_next_under
-      (record { k = rules.rise m.count s.k; kept = s.kept; stop = Cancelled; previous = Absent })
+      (record { k = rules.rise m.count s.k; kept = s.kept; stop = Cancelled; previous = None })
 
   abbrev pub word_under : ℕ
   word_under = shown_word m.values next_under (rules.usable m g.reading && rules.nx m.values step_under s.kept.nx)

@@ -1,5 +1,5 @@
 -- What the theorems ask: the lists, cycles, runs and kits that a request leaves as they were.
-use Rattle.std.specs.Prelude.{ℕ, ◌+◌, ◌≤◌, ◌≡◌, true, false, ◌||◌, List, [], ◌∷◌, get_or, drop, pos, T}
+use Rattle.std.specs.Prelude.{ℕ, ◌+◌, ◌≤◌, ◌≡◌, true, false, ◌||◌, List, [], ◌∷◌, get_or, drop, pos, T, Ok}
 use Rattle.words.specs.declared.Word.TheVariants.{Head}
 use Rattle.words.specs.Words.{word_at}
 use Rattle.machine_data.specs.declared.MachineData.{MachineData}
@@ -15,7 +15,6 @@ use Rattle.state.specs.declared.State.{State}
 use Rattle.state.specs.declared.Given.{Given}
 use Rattle.state.specs.State.{fresh_state}
 use Rattle.judge.specs.Causes.{choice_in, fault_in}
-use Rattle.list.specs.declared.ListAnswer.TheVariants.{Accepted}
 use Rattle.list.specs.Rules.{among, is_head}
 use Rattle.list.specs.Reading.{read_list}
 use Rattle.logs.specs.Run.{Both, given_a, given_b, device_cycle}
@@ -36,7 +35,7 @@ Headed heads s = (n : ℕ) → word_at s 0 ≡ Head n → T (is_head n) → T (a
 -- and so is that of the one behind it
 pub record HeadedKit (heads words : List ℕ) : Type 0 where
   pub list_a : Headed heads words
-  pub list_b : (n : ℕ) → (read_list words).answer ≡ Accepted n → Headed heads (drop n words)
+  pub list_b : (n : ℕ) → (read_list words).answer ≡ Ok n → Headed heads (drop n words)
 
 -- ---- W2
 
@@ -57,7 +56,7 @@ ActiveAtEnds da db x (r ∷ rs) =
 -- in the run of a kit, if it has one
 abbrev pub ActiveKit : List ℕ → Type 0
 ActiveKit words =
-    (n m : ℕ) → (read_list words).answer ≡ Accepted n → (read_list (drop n words)).answer ≡ Accepted m →
+    (n m : ℕ) → (read_list words).answer ≡ Ok n → (read_list (drop n words)).answer ≡ Ok m →
     (rs : List CycleRecord) → log_of (drop (n + m) words) ≡ records rs →
     ActiveAtEnds (read_list words).list (read_list (drop n words)).list (record { a = fresh_state; b = fresh_state }) rs
 
@@ -83,8 +82,8 @@ pub record Unsteadied (m : MachineData) : Type 0 where
 
 -- in both lists of a kit, if they are accepted
 pub record UnsteadiedKit (words : List ℕ) : Type 0 where
-  pub list_a : (n : ℕ) → (read_list words).answer ≡ Accepted n → Unsteadied (read_list words).list
-  pub list_b : (n m : ℕ) → (read_list words).answer ≡ Accepted n → (read_list (drop n words)).answer ≡ Accepted m → Unsteadied (read_list (drop n words)).list
+  pub list_a : (n : ℕ) → (read_list words).answer ≡ Ok n → Unsteadied (read_list words).list
+  pub list_b : (n m : ℕ) → (read_list words).answer ≡ Ok n → (read_list (drop n words)).answer ≡ Ok m → Unsteadied (read_list (drop n words)).list
 
 -- ---- W6
 
@@ -94,5 +93,5 @@ Undirected m = function_of m.values 5 ≡ false
 
 -- in both lists of a kit, if they are accepted
 pub record UndirectedKit (words : List ℕ) : Type 0 where
-  pub list_a : (n : ℕ) → (read_list words).answer ≡ Accepted n → Undirected (read_list words).list
-  pub list_b : (n m : ℕ) → (read_list words).answer ≡ Accepted n → (read_list (drop n words)).answer ≡ Accepted m → Undirected (read_list (drop n words)).list
+  pub list_a : (n : ℕ) → (read_list words).answer ≡ Ok n → Undirected (read_list words).list
+  pub list_b : (n m : ℕ) → (read_list words).answer ≡ Ok n → (read_list (drop n words)).answer ≡ Ok m → Undirected (read_list (drop n words)).list

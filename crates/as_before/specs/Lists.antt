@@ -1,14 +1,13 @@
 -- A list as it was read before a request that added data: by the front of the table that there was, and by its heads. Its data stand in the first of the
 -- places that there are now; the others hold 0, as they do in a refused list. Document 01, "Machine data" and "Words".
-use Rattle.std.specs.Prelude.{ℕ, zero, suc, ◌+◌, Bool, false, cond, ◌&&◌, ◌||◌, List, [], ◌∷◌, ◌++◌, set, ℤ, leb}
+use Rattle.std.specs.Prelude.{ℕ, zero, suc, ◌+◌, Bool, false, cond, ◌&&◌, ◌||◌, List, [], ◌∷◌, ◌++◌, set, ℤ, leb, Result, Ok, Err}
 use Rattle.std.specs.Int.Signed.{le_z}
+use Rattle.refusal.specs.declared.Refusal.{Refusal}
 use Rattle.refusal.specs.declared.Refusal.TheVariants.{WrongWord, OutOfRange}
 use Rattle.words.specs.Words.{word_at}
 use Rattle.words.specs.Cases.{if_head}
 use Rattle.ranges.specs.Table.{Row, base_rows, gear_rows, nx_rows, row_of}
-use Rattle.datum.specs.declared.DatumRead as R
-use Rattle.datum.specs.declared.Units as U
-use Rattle.datum.specs.declared.DatumAnswer as D
+use Rattle.datum.specs.declared.Datum.{Datum}
 use Rattle.datum.specs.Datum.{units_of, datum_at}
 use Rattle.list.specs.declared.ListRead.{ListRead}
 use Rattle.list.specs.Rules.{among}
@@ -25,15 +24,15 @@ module _ (table : List Row) where
   in_range_by k z = reaches table k && le_z (row_of table k).low z && le_z z (row_of table k).high
 
   -- "per datum 1, 2, 3, 4"
-  abbrev pub of_units_by : ℕ → ℕ → ℕ → U.Units → D.DatumAnswer
-  of_units_by k at next (U.TheVariants.Are z) = cond (in_range_by k z) (D.TheVariants.Value z next) (D.TheVariants.Refused (OutOfRange at))
-  of_units_by k at next (U.TheVariants.Refused why) = D.TheVariants.Refused why
+  abbrev pub of_units_by : ℕ → ℕ → ℕ → Result ℤ Refusal → Result (ℤ × ℕ) Refusal
+  of_units_by k at next (Ok z) = cond (in_range_by k z) (Ok (z, next)) (Err (OutOfRange at))
+  of_units_by k at next (Err why) = Err why
 
-  abbrev pub of_read_by : ℕ → ℕ → R.DatumRead → D.DatumAnswer
-  of_read_by k at (R.TheVariants.Datum d next) = of_units_by k at next (units_of d at)
-  of_read_by k at (R.TheVariants.Bad place) = D.TheVariants.Refused (WrongWord place)
+  abbrev pub of_read_by : ℕ → ℕ → Result (Datum × ℕ) ℕ → Result (ℤ × ℕ) Refusal
+  of_read_by k at (Ok (d, next)) = of_units_by k at next (units_of d at)
+  of_read_by k at (Err place) = Err (WrongWord place)
 
-  unfoldable pub value_by : List ℕ → ℕ → ℕ → D.DatumAnswer
+  unfoldable pub value_by : List ℕ → ℕ → ℕ → Result (ℤ × ℕ) Refusal
   value_by s k at = of_read_by k at (datum_at s k at)
 
   -- "The first faulty datum gives the answer"

@@ -1,5 +1,6 @@
 -- A log's run and a kit's listing under any rules: document 01, "An accepted log runs the two channels given with it" and "The bench program".
-use Rattle.std.specs.Prelude.{ℕ, ◌+◌, ◌*◌, Bool, cond, List, [], ◌∷◌, ◌++◌, length, drop}
+use Rattle.std.specs.Prelude.{ℕ, ◌+◌, ◌*◌, Bool, cond, List, [], ◌∷◌, ◌++◌, length, drop, Result, Ok, Err}
+use Rattle.refusal.specs.declared.Refusal.{Refusal}
 use Rattle.refusal.specs.declared.Refusal.TheVariants.{WrongLog}
 use Rattle.refusal.specs.declared.Part.TheVariants.{ListA, ListB, Log}
 use Rattle.machine_data.specs.declared.MachineData.{MachineData}
@@ -10,10 +11,8 @@ use Rattle.state.specs.declared.Given.{Given}
 use Rattle.state.specs.State.{fresh_state}
 use Rattle.device.specs.Device.{device_of}
 use Rattle.list.specs.declared.ListRead.{ListRead}
-use Rattle.list.specs.declared.ListAnswer as A
 use Rattle.channel.specs.declared.Channel.{Channel}
 use Rattle.channel.specs.Cycle.{after_cycles}
-use Rattle.logs.specs.declared.LogAnswer.TheVariants.{Accepted}
 use Rattle.logs.specs.Run.{Both, Ran, both_of}
 use Rattle.listing.specs.Listing.{Said, ran, refused, text_of}
 use Rattle.kit_bytes.specs.KitBytes.{whole_words, words_of}
@@ -55,7 +54,7 @@ module _ (rules : Rules) where
   running_under a b out rs =
       let last = last_under a.list b.list (both_of a b) rs in
       record {
-        answer = Accepted (length rs);
+        answer = Ok (length rs);
         a = after_cycles (length rs) a last.a;
         b = after_cycles (length rs) b last.b;
         out = lines_under a.list b.list (both_of a b) rs ++ drop (3 * length rs) out;
@@ -67,13 +66,13 @@ module _ (rules : Rules) where
   log_under a b (records rs) = ran (lines_under a b (record { a = fresh_state; b = fresh_state }) rs)
   log_under a b (fault place) = refused (WrongLog place) Log
 
-  abbrev pub second_under : List ℕ → ℕ → MachineData → ListRead → A.ListAnswer → Said
-  second_under words n a r (A.TheVariants.Accepted m) = log_under a r.list (log_of (drop (n + m) words))
-  second_under words n a r (A.TheVariants.Refused why) = refused why ListB
+  abbrev pub second_under : List ℕ → ℕ → MachineData → ListRead → Result ℕ Refusal → Said
+  second_under words n a r (Ok m) = log_under a r.list (log_of (drop (n + m) words))
+  second_under words n a r (Err why) = refused why ListB
 
-  abbrev pub first_under : List ℕ → ListRead → A.ListAnswer → Said
-  first_under words r (A.TheVariants.Accepted n) = second_under words n r.list (rules.read (drop n words)) (rules.read (drop n words)).answer
-  first_under words r (A.TheVariants.Refused why) = refused why ListA
+  abbrev pub first_under : List ℕ → ListRead → Result ℕ Refusal → Said
+  first_under words r (Ok n) = second_under words n r.list (rules.read (drop n words)) (rules.read (drop n words)).answer
+  first_under words r (Err why) = refused why ListA
 
   -- "The words behind list A are handed on as list B, those behind B are the log"
   abbrev pub said_under : List ℕ → Said

@@ -1,4 +1,5 @@
 -- What an ask leaves, by the answer of its list. Assumes nothing.
+use Rattle.std.specs.Prelude.{Result, Ok, Err}
 use mathlib.Core.Path.{◌≡◌, sym, ap, ◌∙◌}
 use mathlib.Core.List.{List, ◌++◌}
 use Prim.Native.Nat.{ℕ, ◌≤◌, ◌<◌}
@@ -12,8 +13,6 @@ use Rattle.inputs.specs.declared.Reading.{Reading}
 use Rattle.report.specs.declared.Report.{Report}
 use Rattle.codes.specs.declared.Causes.{Causes}
 use Rattle.list.specs.declared.ListRead.{ListRead}
-use Rattle.list.specs.declared.ListAnswer.{ListAnswer}
-use Rattle.list.specs.declared.ListAnswer.TheVariants.{Accepted, Refused}
 use Rattle.list.specs.Reading.{read_list}
 use Rattle.crossing_lists.specs.Answers.{list_number, list_place, list_left}
 use Rattle.crossing_lists.proofs.Counts.{some_data, no_data}
@@ -37,7 +36,7 @@ module _ (words state : List ℕ) (p : List ℤ) (codes : List ℕ) (r : Reading
   there = put ∙ (λ i. writing_pending (is i).list.count state)
 
   -- what an ask leaves, by its answer
-  abbrev leaving : ListAnswer → AskLeft
+  abbrev leaving : Result ℕ Refusal → AskLeft
   leaving x =
       record {
         number = list_number x;
@@ -57,10 +56,10 @@ module _ (words state : List ℕ) (p : List ℤ) (codes : List ℕ) (r : Reading
       let left = ap (pending_of p') (ap (λ (x : Written). x.pending) there ∙ whole_count L.list.count small) ∙ is-list in
       λ i. record { list = record { values = values; count = same i }; state = kept i; pending = left i }
 
-  pub taken : {used : ℕ} {told : Causes} → read.answer ≡ Accepted used → told ≡ told_of read.list (state_from state) r o →
+  pub taken : {used : ℕ} {told : Causes} → read.answer ≡ Ok used → told ≡ told_of read.list (state_from state) r o →
       left_by_ask 0 w read.list.values told.codes used ≡ ask_into words state p codes r o
   taken {used} {told} e q =
-      let answer : L.answer ≡ Accepted used = ap (λ (x : ListRead). x.answer) (sym is) ∙ e in
+      let answer : L.answer ≡ Ok used = ap (λ (x : ListRead). x.answer) (sym is) ∙ e in
       let some = some_data words used answer in
       let tells : told ≡ told_of L.list (state_from state) r o = q ∙ ap (λ (x : ListRead). told_of x.list (state_from state) r o) is in
       let channel : (values : List ℤ) → channel_from values read.list.values w ≡ (asked_of (channel_from values p state) words r o).channel =
@@ -68,10 +67,10 @@ module _ (words state : List ℕ) (p : List ℤ) (codes : List ℕ) (r : Reading
       (λ i. record { number = 0; place = used; state = (there i).words; pending = (is i).list.values; codes = (tells i).codes; channel = λ values. channel values i })
       ∙ ap leaving (sym answer)
 
-  pub refused : {why : Refusal} {number at : ℕ} → read.answer ≡ Refused why → number ≡ refusal_number why → at ≡ refusal_place why →
+  pub refused : {why : Refusal} {number at : ℕ} → read.answer ≡ Err why → number ≡ refusal_number why → at ≡ refusal_place why →
       left_by_ask number w p codes at ≡ ask_into words state p codes r o
   refused {why} e number at =
-      let answer : L.answer ≡ Refused why = ap (λ (x : ListRead). x.answer) (sym is) ∙ e in
+      let answer : L.answer ≡ Err why = ap (λ (x : ListRead). x.answer) (sym is) ∙ e in
       let none = no_data words why answer in
       let few : L.list.count < 4294967296 = omega (arith, ap (λ (m : MachineData). m.count) none) in
       let channel = channel_is p few (ap (λ (m : MachineData). pending_of p m.count) none ∙ sym none) in

@@ -10,8 +10,7 @@ ghost use Rattle.axis_lists.specs.Left.{left_by_ask, ask_into, left_by_commit, c
 use codes::Codes;
 use crossing_reports::ReportWords;
 use image::Image;
-use list::ListAnswer;
-use machine_data::Values;
+use machine_data::{Lent, Values};
 use refusal::Refusal;
 
 // A list asked about: 0, the words used and the fresh causes of a cycle straight behind its commit, and it is pending; or the
@@ -31,18 +30,11 @@ pub fn monitor_ask(
     let given = crossing_reports::given_from(position, inputs, 0, report);
     let before = image::state_from(state);
     let read = list::read_list(words);
-    let answer = read.answer;
     let list = read.list;
     image_writing::put_pending(list.count, state);
-    match answer {
-        ListAnswer::Accepted(used) => {
-            let told = pending::told(
-                &list.values,
-                list.count,
-                before,
-                given.reading,
-                given.report,
-            );
+    match read.answer {
+        Ok(used) => {
+            let told = pending::told(list.lend(), before, given.reading, given.report);
             let codes = told.codes;
             *causes = codes;
             let values = list.values;
@@ -50,7 +42,7 @@ pub fn monitor_ask(
             *at = used;
             0
         }
-        ListAnswer::Refused(why) => {
+        Err(why) => {
             *at = why.place();
             why.number()
         }
@@ -68,7 +60,11 @@ pub fn monitor_commit(values: &mut Values, state: &mut Image, asked: &Values, at
         return why.number();
     }
     let before = image::state_from(state);
-    let after = commit::committed(asked, count, before);
+    let list = Lent {
+        values: asked,
+        count,
+    };
+    let after = commit::committed(list, before);
     *state = image_writing::words_of(count, after, 0);
     *values = *asked;
     *at = count;

@@ -17,9 +17,8 @@ use Rattle.refusal.specs.Refusal.{refusal_number, refusal_place}
 use Rattle.state.specs.declared.State.{State}
 use Rattle.channel.specs.declared.Channel.{Channel}
 use Rattle.channel.specs.Cycle.{after_cycles}
-use Rattle.logs.specs.declared.LogStates.{LogStates}
-use Rattle.logs.specs.declared.LogAnswer.{LogAnswer}
-use Rattle.logs.specs.declared.LogAnswer.TheVariants.{Accepted, Refused}
+use Rattle.std.proofs.Common.{Result, Ok, Err}
+use Rattle.logs.specs.declared.LogRun.{LogRun}
 use Rattle.logs.specs.Run.{Ran, refusing, running, by_records, ran_of}
 use Rattle.logs.specs.Left.{beside, keeping, cycles_run, left_of, left_beside, ran_beside}
 use Rattle.image.specs.Image.{count_from, pending_count, pending_after, state_from, state_words}
@@ -33,8 +32,8 @@ use Rattle.channel_image.proofs.Channels.{written, pending_behind_lem}
 pub record Leaves (a b : Channel) (out : List ℕ) (r : Ran) : Type 0 where
   pub a_list : r.a ≡ after_cycles (cycles_run r.answer) a r.a.state
   pub b_list : r.b ≡ after_cycles (cycles_run r.answer) b r.b.state
-  pub refused_a : (why : Refusal) → r.answer ≡ Refused why → r.a ≡ a
-  pub refused_b : (why : Refusal) → r.answer ≡ Refused why → r.b ≡ b
+  pub refused_a : (why : Refusal) → r.answer ≡ Err why → r.a ≡ a
+  pub refused_b : (why : Refusal) → r.answer ≡ Err why → r.b ≡ b
 
 module _ (a b : Channel) (out : List ℕ) where
   by_refusal : (why : Refusal) → Leaves a b out (refusing a b out why)
@@ -71,7 +70,7 @@ channel_is : (values p : List ℤ) (w : List ℕ) {count : ℕ} {s : State} → 
 channel_is values p w is same = λ i. keeping (pending_of p (pending_count w)) (beside values (is i) (same i))
 
 module _ (values-a : List ℤ) (wa : List ℕ) (values-b : List ℤ) (wb words out : List ℕ) {na nb : ℕ} {sa sb : State} (many-a : na ≡ count_from wa) (many-b : nb ≡ count_from wb)
-    (same-a : sa ≡ state_from wa) (same-b : sb ≡ state_from wb) {r : LogStates} {out' : List ℕ} (given : left_beside (beside values-a na sa) (beside values-b nb sb) r out' ≡ ran_beside (beside values-a na sa) (beside values-b nb sb) words out)
+    (same-a : sa ≡ state_from wa) (same-b : sb ≡ state_from wb) {r : LogRun State} {out' : List ℕ} (given : left_beside (beside values-a na sa) (beside values-b nb sb) r out' ≡ ran_beside (beside values-a na sa) (beside values-b nb sb) words out)
     (p q : List ℤ) where
   abbrev a : Channel
   a = keeping (pending_of p (pending_count wa)) (beside values-a na sa)
@@ -90,7 +89,7 @@ module _ (values-a : List ℤ) (wa : List ℕ) (values-b : List ℤ) (wb words o
   left = leaves (channel_from values-a p wa) (channel_from values-b q wb) out words
 
   -- what the run leaves of two states, by its answer
-  abbrev leaving_by : LogAnswer → LogLeft
+  abbrev leaving_by : Result ℕ Refusal → LogLeft
   leaving_by x =
       record {
         number = log_number x;
@@ -102,20 +101,20 @@ module _ (values-a : List ℤ) (wa : List ℕ) (values-b : List ℤ) (wb words o
         b = R.b;
       }
 
-  pub ran : {n pa pb : ℕ} {wa' wb' : List ℕ} → r.answer ≡ Accepted n → na < 4294967296 → nb < 4294967296 → (pa ≡ pending_after n (pending_count wa)) × (pa < 4294967296) →
+  pub ran : {n pa pb : ℕ} {wa' wb' : List ℕ} → r.answer ≡ Ok n → na < 4294967296 → nb < 4294967296 → (pa ≡ pending_after n (pending_count wa)) × (pa < 4294967296) →
       (pb ≡ pending_after n (pending_count wb)) × (pb < 4294967296) → written_as wa' ≡ writing na r.a pa → written_as wb' ≡ writing nb r.b pb →
       left_by_log values-a values-b 0 wa' wb' out' n p q ≡ log_over values-a wa values-b wb words out p q
   ran {n} e small-a small_b left-a left-b put_a put_b =
-      let answer : R.answer ≡ Accepted n = sym (ap (λ (x : Ran). x.answer) log) ∙ e in
-      let list_a = left.a_list ∙ ap (λ (x : LogAnswer). after_cycles (cycles_run x) (channel_from values-a p wa) R.a.state) answer in
-      let list_b = left.b_list ∙ ap (λ (x : LogAnswer). after_cycles (cycles_run x) (channel_from values-b q wb) R.b.state) answer in
+      let answer : R.answer ≡ Ok n = sym (ap (λ (x : Ran). x.answer) log) ∙ e in
+      let list_a = left.a_list ∙ ap (λ (x : Result ℕ Refusal). after_cycles (cycles_run x) (channel_from values-a p wa) R.a.state) answer in
+      let list_b = left.b_list ∙ ap (λ (x : Result ℕ Refusal). after_cycles (cycles_run x) (channel_from values-b q wb) R.b.state) answer in
       let ra = after_run values-a p wa R.a n list_a (ap (λ (x : Ran). x.a.state) log) many-a small-a left-a.0 left-a.1 put_a in
       let rb = after_run values-b q wb R.b n list_b (ap (λ (x : Ran). x.b.state) log) many-b small_b left-b.0 left-b.1 put_b in
       (λ i. record { number = 0; place = n; state_a = ra.0 i; state_b = rb.0 i; out = (log i).out; a = ra.1 i; b = rb.1 i }) ∙ ap leaving_by (sym answer)
 
-  pub refused : {why : Refusal} {number at : ℕ} → r.answer ≡ Refused why → number ≡ refusal_number why → at ≡ refusal_place why →
+  pub refused : {why : Refusal} {number at : ℕ} → r.answer ≡ Err why → number ≡ refusal_number why → at ≡ refusal_place why →
       left_by_log values-a values-b number wa wb out' at p q ≡ log_over values-a wa values-b wb words out p q
   refused {why} e number at =
-      let answer : R.answer ≡ Refused why = sym (ap (λ (x : Ran). x.answer) log) ∙ e in
+      let answer : R.answer ≡ Err why = sym (ap (λ (x : Ran). x.answer) log) ∙ e in
       (λ i. record { number = number i; place = at i; state_a = wa; state_b = wb; out = (log i).out; a = sym (left.refused_a why answer) i; b = sym (left.refused_b why answer) i })
       ∙ ap leaving_by (sym answer)

@@ -9,8 +9,7 @@ ghost use Rattle.listing.specs.Listing.{listed, cycles_of, told_of};
 ghost use Rattle.axis_logs.specs.Left.{left_by_log, log_over};
 
 use image::Image;
-use logs::LogAnswer;
-use machine_data::Values;
+use machine_data::{Lent, Values};
 
 // A log over two channels, whatever data their pending lists have: 0 and the number of cycles, or the refusal's number and place,
 // with the states and the output as they were.
@@ -29,20 +28,25 @@ pub fn monitor_run_log(
     let nb = image::count_of(state_b);
     let a = image::state_from(state_a);
     let b = image::state_from(state_b);
-    let ran = logs::run_on(values_a, na, a, values_b, nb, b, words, out);
-    let answer = ran.answer;
-    match answer {
-        LogAnswer::Accepted(cycles) => {
-            let a_state = ran.a;
+    let da = Lent {
+        values: values_a,
+        count: na,
+    };
+    let db = Lent {
+        values: values_b,
+        count: nb,
+    };
+    let ran = logs::run_on(da, a, db, b, words, out);
+    match ran.answer {
+        Ok(cycles) => {
             let a_pending = image::pending_after(cycles, state_a);
-            *state_a = image_writing::words_of(na, a_state, a_pending);
-            let b_state = ran.b;
+            *state_a = image_writing::words_of(na, ran.a, a_pending);
             let b_pending = image::pending_after(cycles, state_b);
-            *state_b = image_writing::words_of(nb, b_state, b_pending);
+            *state_b = image_writing::words_of(nb, ran.b, b_pending);
             *at = cycles;
             0
         }
-        LogAnswer::Refused(why) => {
+        Err(why) => {
             *at = why.place();
             why.number()
         }

@@ -11,15 +11,14 @@ ghost use Rattle.axis_monitor.specs.Crossing.{interface_number};
 ghost use Rattle.directions.specs.Directions.{watched_of};
 ghost use Rattle.image_writing.specs.Written.{directions_as};
 ghost use Rattle.axis_monitor.specs.Left.{left_by_list, list_into, left_by_report, reported_by, reporting, left_by_way, guarding, usable_leaves, unusable_leaves, left_by_cycle, cycle_on};
-ghost use Rattle.machine_data.specs.Data.{lent};
+ghost use Rattle.machine_data.specs.Data.{list_of};
 
 use codes::Codes;
 use crossing_reports::ReportWords;
 use directions::Watched;
 use image::Image;
 use inputs::Reading;
-use list::ListAnswer;
-use machine_data::Values;
+use machine_data::{Lent, Values};
 use state::{Given, State};
 
 // The number of this interface: it rises where a function, an array or the meaning of a word changes.
@@ -39,17 +38,16 @@ pub fn monitor_read_list(
     ensures { left_by_list result values.new state.new at.new ≡ list_into words.now values.old state.old }
 {
     let read = list::read_list(words);
-    let answer = read.answer;
     let list = read.list;
-    match answer {
-        ListAnswer::Accepted(used) => {
+    match read.answer {
+        Ok(used) => {
             let read_values = list.values;
             *values = read_values;
             *state = image_writing::words_of(list.count, State::fresh(), 0);
             *at = used;
             0
         }
-        ListAnswer::Refused(why) => {
+        Err(why) => {
             *at = why.place();
             why.number()
         }
@@ -67,9 +65,10 @@ pub fn monitor_report(
     ensures { left_by_report report.new ≡ reporting (reported_by values.now state.now position inputs) }
 {
     let count = image::count_of(state);
+    let list = Lent { values, count };
     let k = image::k_of(state);
     let reading = Reading { position, inputs };
-    *report = crossing_reports::report_words(report::report_of(values, count, k, reading));
+    *report = crossing_reports::report_words(report::report_of(list, k, reading));
 }
 
 // The ways of a cycle are functions of their own. Each then writes what it leaves by itself: the parts that only one of them
@@ -82,8 +81,7 @@ fn guard(values: &Values, before: State, reading: Reading, state: &mut Image) ->
     ensures value { result ≡ watched_of values.now reading before.kept.directions }
     ensures state_after { directions_as state.new ≡ guarding values.now reading before.kept.directions state.old }
 {
-    let kept = before.kept;
-    let directions = kept.directions;
+    let directions = before.kept.directions;
     if directions::on(values) {
         let after = directions.next(values, reading);
         image_writing::put_directions(after, state);
@@ -101,41 +99,30 @@ fn guard(values: &Values, before: State, reading: Reading, state: &mut Image) ->
 
 // A usable cycle.
 fn usable_cycle(
-    values: &Values,
-    count: usize,
+    list: Lent,
     before: State,
     given: Given,
     state: &mut Image,
     causes: &mut Codes,
 ) -> u32
-    ensures { left_by_way result state.new causes.new ≡ usable_leaves (lent values.now count) before given state.old }
+    ensures { left_by_way result state.new causes.new ≡ usable_leaves (list_of list.entry) before given state.old }
 {
-    let watched = guard(values, before, given.reading, state);
-    let begun = judge::begin(values, before, given);
-    let findings = judge::finish(values, count, before, given, begun, watched);
-    let rows = findings.rows;
-    let listed = codes::list_causes(rows, causes);
-    let summary = listed.summary;
-    let advanced = advance::found(values, count, before, given, findings, summary);
-    let after = advanced.state;
-    image_writing::put_front(count, after, state);
+    let watched = guard(list.values, before, given.reading, state);
+    let begun = judge::begin(list.values, before, given);
+    let findings = judge::finish(list, before, given, begun, watched);
+    let listed = codes::list_causes(findings.rows, causes);
+    let advanced = advance::found(list, before, given, findings, listed.summary);
+    image_writing::put_front(list.count, advanced.state, state);
     advanced.word
 }
 
 // One with unusable inputs.
-fn unusable_cycle(
-    values: &Values,
-    count: usize,
-    before: State,
-    state: &mut Image,
-    causes: &mut Codes,
-) -> u32
-    ensures { left_by_way result state.new causes.new ≡ unusable_leaves (lent values.now count) before state.old }
+fn unusable_cycle(list: Lent, before: State, state: &mut Image, causes: &mut Codes) -> u32
+    ensures { left_by_way result state.new causes.new ≡ unusable_leaves (list_of list.entry) before state.old }
 {
-    let idle = advance::skipped(values, count, before);
+    let idle = advance::skipped(list, before);
     codes::list_unusable(causes);
-    let after = idle.state;
-    image_writing::put_front(count, after, state);
+    image_writing::put_front(list.count, idle.state, state);
     idle.word
 }
 
@@ -153,11 +140,12 @@ pub fn monitor_cycle(
 {
     let given = crossing_reports::given_from(position, inputs, acknowledged, report);
     let count = image::count_of(state);
+    let list = Lent { values, count };
     let before = image::state_from(state);
-    if usable_inputs::usable(values, count, given.reading) {
-        usable_cycle(values, count, before, given, state, causes)
+    if usable_inputs::usable(list, given.reading) {
+        usable_cycle(list, before, given, state, causes)
     } else {
-        unusable_cycle(values, count, before, state, causes)
+        unusable_cycle(list, before, state, causes)
     }
 }
 

@@ -2,32 +2,7 @@
 // error, and what it could not read it does not list.
 #![tactic(auto)]
 
-ghost use Rattle.std.specs.Prelude.{◌≤◌, length};
-ghost use Rattle.bench.specs.Input.{bytes_of};
-
 use std::io;
-use std::io::Read;
-
-#[derive(Drop)]
-enum Input {
-    // so many were read, up to the end of the input or of the room
-    Bytes(usize),
-    Failed(io::Error),
-}
-
-fn read_all(input: &mut impl Read, room: &mut [u8]) -> Input
-    ensures { bytes_of result ≤ length room.new }
-{
-    let mut done = 0usize;
-    while done < room.len() {
-        match input.read(&mut room[done..]) {
-            Ok(0) => return Input::Bytes(done),
-            Ok(more) => done += more,
-            Err(error) => return Input::Failed(error),
-        }
-    }
-    Input::Bytes(done)
-}
 
 // What failed, on standard error. Where that cannot be written either, nothing is left to say it on.
 fn fail(rt: &impl Eprint, what: &str, error: io::Error) {
@@ -46,8 +21,8 @@ fn list(rt: &(impl Print + Eprint), kit: &[u8]) {
 fn main(rt: HostRuntime) {
     // One word more than the largest kit, so that bytes past 65,536 are noticed.
     let mut room = [0u8; 65540];
-    match read_all(&mut rt.stdin(), &mut room) {
-        Input::Bytes(many) => list(&rt, &room[..many]),
-        Input::Failed(error) => fail(&rt, "standard input", error),
+    match reading::fill(&mut rt.stdin(), &mut room) {
+        (many, Ok(())) => list(&rt, &room[..many]),
+        (_, Err(error)) => fail(&rt, "standard input", error),
     }
 }

@@ -8,9 +8,9 @@ use lib.IntN.{ℤ}
 use Rattle.refusal.specs.declared.Refusal.{Refusal}
 use Rattle.refusal.specs.declared.Refusal.TheVariants.{WrongWord, OpenDatum, NoWholeNumber, OutOfRange, SeEnds, WrongLog, ShortOutput, NothingPending}
 use Rattle.refusal.specs.Refusal.{refusal_number}
+use Rattle.channel.specs.declared.Channel.{Channel}
 use Rattle.logs.specs.declared.LogRun.{LogRun}
-use Rattle.logs.specs.declared.LogAnswer.{LogAnswer}
-use Rattle.logs.specs.declared.LogAnswer.TheVariants.{Accepted, Refused}
+use Rattle.std.proofs.Common.{Result, Ok, Err}
 use Rattle.logs.specs.Run.{ran_of}
 use Rattle.logs.specs.Left.{left_by}
 use Rattle.single.specs.Single.{single_of}
@@ -36,9 +36,9 @@ refusal_not_0 (ShortOutput wanted) x y = refl
 refusal_not_0 NothingPending x y = refl
 
 -- the words by an answer's number and place are those by the answer
-by_number : (s : Side) (x : LogAnswer) (out : List ℕ) → answered_words s x out ≡ given_words s (log_number x) (log_place x) out
-by_number s (Accepted n) out = refl
-by_number s (Refused why) out = sym (refusal_not_0 why (words_from s out 0 (log_place (Refused why))) [])
+by_number : (s : Side) (x : Result ℕ Refusal) (out : List ℕ) → answered_words s x out ≡ given_words s (log_number x) (log_place x) out
+by_number s (Ok n) out = refl
+by_number s (Err why) out = sym (refusal_not_0 why (words_from s out 0 (log_place (Err why))) [])
 
 module _ (a b : Arrays) (words out : List ℕ) {number at : ℕ} {state-a' state-b' out' : List ℕ}
     (e : left_by_log a.data_in_force b.data_in_force number state-a' state-b' out' at ≡ log_over a.data_in_force a.state b.data_in_force b.state words out) where
@@ -48,7 +48,7 @@ module _ (a b : Arrays) (words out : List ℕ) {number at : ℕ} {state-a' state
   abbrev after_b : Arrays
   after_b = record { data_in_force = b.data_in_force; pending = b.pending; state = state-b' }
 
-  abbrev run : LogRun
+  abbrev run : LogRun Channel
   run = record { answer = (ran_of (channel_of a) (channel_of b) words out).answer; a = channel_of after_a; b = channel_of after_b }
 
   as_run : left_by run out' ≡ ran_of (channel_of a) (channel_of b) words out
@@ -77,8 +77,8 @@ on_channel {a} (ran {s} {o} {words} {out} number at state-a' state-b' out' e) = 
         (D.ran (run o a words out x) out' (as_run o a words out x))
 on_channel {a} (asked {words} {position} {inputs} {report} number at state' pending' codes' e) =
     let r = asked_of (channel_of a) words (reading_of position inputs) (report_from report) in
-    D.asked (record { answer = r.answer; causes = r.causes; channel = channel_of (record { data_in_force = a.data_in_force; pending = pending'; state = state' }) })
-    (λ i. record { answer = r.answer; causes = r.causes; channel = (e i).channel a.data_in_force })
+    D.asked (record { answer = r.answer; channel = channel_of (record { data_in_force = a.data_in_force; pending = pending'; state = state' }) })
+    (λ i. record { answer = r.answer; channel = (e i).channel a.data_in_force })
 on_channel {a} (took number at data' state' e) =
     let r = commit_of (channel_of a) in
     D.took (record { answer = r.answer; channel = channel_of (record { data_in_force = data'; pending = a.pending; state = state' }) })

@@ -15,7 +15,7 @@ use machine_data::{Values, numbers};
 fn from_lowest(z: i32) -> u32
     ensures { result ≡ from_lowest z }
 {
-    ((z as i64) + 2147483648) as u32
+    z.abs_diff(i32::MIN)
 }
 
 // 1 where the position is above the edge and its tolerance. The tolerance is taken off the position and not put on each edge:
@@ -50,11 +50,9 @@ pub fn next(values: &Values, reading: Reading, before: u32) -> u32
 {
     let tolerance = machine_data::number(values, numbers::CAM_TOLERANCE) as u32;
     let mut signals = 0u32;
-    let mut n = 0u32;
-    while n < 8 {
+    for n in 0..8 {
         let edge = machine_data::cam_edge(values, n as usize);
         signals += signal(edge, tolerance, reading.position, before, n);
-        n += 1;
     }
     signals
 }

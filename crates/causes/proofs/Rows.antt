@@ -1,24 +1,14 @@
--- A loop that takes in row after row of a table has taken in the whole table; where no row stands, nothing: for whatever the rows are taken into. Assumes
--- nothing.
-use Prim.Native.Nat.{ℕ, suc, ◌+◌, ◌≤◌, ◌<◌}
+-- The rows of a table folded into something are taken into it one behind the other; where no row stands, none is. Assumes nothing.
 use mathlib.Core.Bool.{Bool, true, false, true≢false}
 use mathlib.Core.List.{List, [], ◌∷◌}
-use mathlib.Core.Path.{◌≡◌, refl, sym, ap, ◌∙◌}
-use native.Mathlib.Numerals.{add-one}
-use lib.ListN.{length, drop, get_or, drop_of_length-le}
-use lib.Seq.{drop-cons}
-use Rattle.rank.specs.declared.Rank.TheVariants.{None}
+use mathlib.Core.Path.{◌≡◌, refl, ap, ◌∙◌}
+use Rattle.std.proofs.Common.{fold}
 use Rattle.causes.specs.declared.Cause.{Cause}
-use Rattle.causes.specs.Causes.{cause, over_rows, stands_or}
+use Rattle.causes.specs.Causes.{over_rows, stands_or}
 
-module _ {S : Type 0} (take_in : Cause → S → S) (rows : List Cause) (i : ℕ) (whole s : S) (so_far : over_rows take_in (drop i rows) s ≡ whole) where
-  pub row_taken : i < length rows → (t : S) → t ≡ take_in (get_or rows i (cause 0 false None)) s → over_rows take_in (drop (i + 1) rows) t ≡ whole
-  row_taken h t e =
-      rw add-one
-      (ap (over_rows take_in (drop (suc i) rows)) e ∙ sym (ap (λ (rest : List Cause). over_rows take_in rest s) (drop-cons rows i (cause 0 false None) h)) ∙ so_far)
-
-  pub all_taken : length rows ≤ i → s ≡ whole
-  all_taken h = sym (ap (λ (rest : List Cause). over_rows take_in rest s) (drop_of_length-le rows h)) ∙ so_far
+pub folded : {S : Type 0} (take_in : Cause → S → S) (rows : List Cause) (s : S) → fold (λ t c. take_in c t) s rows ≡ over_rows take_in rows s
+folded take_in [] s = refl
+folded take_in (c ∷ cs) s = folded take_in cs (take_in c s)
 
 module _ {S : Type 0} (take_in : Cause → S → S) (idle : (c : Cause) (s : S) → c.stands ≡ false → take_in c s ≡ s) where
   pub none_taken : (rows : List Cause) (any : Bool) (s : S) → over_rows stands_or rows any ≡ false → (any ≡ false) × (over_rows take_in rows s ≡ s)

@@ -7,7 +7,6 @@ use Rattle.state.specs.declared.Given.{Given}
 use Rattle.judge.specs.Causes.{rows_of}
 use Rattle.advance.specs.declared.Advanced.{Advanced}
 use Rattle.channel.specs.declared.Channel.{Channel}
-use Rattle.channel.specs.declared.Cycled.{Cycled}
 use Rattle.channel.specs.declared.Outcome.{Outcome}
 use Rattle.channel.specs.Cycle.{with_state, next}
 use Rattle.channel.specs.Word.{word}
@@ -21,8 +20,8 @@ abbrev pub advanced : MachineData → State → Given → Advanced
 advanced m s g = record { state = next m s g; word = word m s g }
 
 -- with them
-abbrev pub cycled : MachineData → State → Given → Cycled
-cycled m s g = record { state = next m s g; word = word m s g; causes = causes_in m s g }
+abbrev pub cycled : MachineData → State → Given → Advanced × Causes
+cycled m s g = (advanced m s g, causes_in m s g)
 
 -- of a channel
 abbrev pub outcome_of : Channel → Given → Outcome

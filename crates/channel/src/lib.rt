@@ -2,31 +2,24 @@
 #![tactic(auto)]
 
 ghost use Rattle.std.specs.Prelude.{◌≡◌};
-ghost use Rattle.machine_data.specs.Data.{lent};
+ghost use Rattle.machine_data.specs.Data.{list_of};
 ghost use Rattle.channel.specs.Cycle.{no_list, with_list, fresh_channel, behind, after_cycles};
 ghost use Rattle.channel.specs.Outcome.{advanced, cycled, outcome_of};
 
 use advance::Advanced;
 use causes::Summary;
 use codes::{CODES, Causes};
-use machine_data::{MachineData, Values};
+use machine_data::{Lent, MachineData};
 use ranges::DATA;
 use state::{Given, State};
 
-// A channel: the list in force, its state, and the pending list, which was asked about and may be committed; one of no data is none.
+// A channel: the list in force, its state, and the pending list, which was asked about and may be committed. One of
+// no data is none, and no Option of a list: so C's image of a channel has it, and axis_monitor takes any.
 #[derive(Clone, Copy)]
 pub struct Channel {
     pub list: MachineData,
     pub state: State,
     pub pending: MachineData,
-}
-
-// What a cycle gives beside its data: the state after it, its word and its causes.
-#[derive(Clone, Copy)]
-pub struct Cycled {
-    pub state: State,
-    pub word: u32,
-    pub causes: Causes,
 }
 
 // What a cycle gives: the channel after it, its word and its causes.
@@ -38,16 +31,15 @@ pub struct Outcome {
 }
 
 // A cycle of a state beside its data, without its causes: what a log needs.
-pub fn advance(values: &Values, count: usize, state: State, given: Given) -> Advanced
-    ensures { result ≡ advanced (lent values.now count) state given }
+pub fn advance(list: Lent, state: State, given: Given) -> Advanced
+    ensures { result ≡ advanced (list_of list.entry) state given }
 {
-    if usable_inputs::usable(values, count, given.reading) {
-        let findings = judge::judge(values, count, state, given);
-        let rows = findings.rows;
-        let summary = Summary::of(rows);
-        advance::found(values, count, state, given, findings, summary)
+    if usable_inputs::usable(list, given.reading) {
+        let findings = judge::judge(list, state, given);
+        let summary = Summary::of(findings.rows);
+        advance::found(list, state, given, findings, summary)
     } else {
-        advance::skipped(values, count, state)
+        advance::skipped(list, state)
     }
 }
 
@@ -91,41 +83,26 @@ pub fn with_list(list: MachineData, state: State) -> Channel
 pub fn after_cycles(channel: Channel, state: State, cycles: usize) -> Channel
     ensures { result ≡ after_cycles cycles channel state }
 {
-    let list = channel.list;
-    let pending = channel.pending;
     Channel {
-        list,
         state,
-        pending: behind(pending, cycles),
+        pending: behind(channel.pending, cycles),
+        ..channel
     }
 }
 
-// A cycle of a state beside its data, with no copy of them.
-fn cycle_on(values: &Values, count: usize, state: State, given: Given) -> Cycled
-    ensures { result ≡ cycled (lent values.now count) state given }
+// A cycle of a state beside its data, with no copy of them, and its causes.
+fn cycle_on(list: Lent, state: State, given: Given) -> (Advanced, Causes)
+    ensures { result ≡ cycled (list_of list.entry) state given }
 {
-    if usable_inputs::usable(values, count, given.reading) {
-        let findings = judge::judge(values, count, state, given);
-        let rows = findings.rows;
+    if usable_inputs::usable(list, given.reading) {
+        let findings = judge::judge(list, state, given);
         let mut codes = [0u8; CODES];
-        let listed = codes::list_causes(rows, &mut codes);
-        let summary = listed.summary;
-        let advanced = advance::found(values, count, state, given, findings, summary);
-        let after = advanced.state;
+        let listed = codes::list_causes(findings.rows, &mut codes);
+        let advanced = advance::found(list, state, given, findings, listed.summary);
         let count = listed.count;
-        Cycled {
-            state: after,
-            word: advanced.word,
-            causes: Causes { codes, count },
-        }
+        (advanced, Causes { codes, count })
     } else {
-        let idle = advance::skipped(values, count, state);
-        let after = idle.state;
-        Cycled {
-            state: after,
-            word: idle.word,
-            causes: Causes::unusable(),
-        }
+        (advance::skipped(list, state), Causes::unusable())
     }
 }
 
@@ -133,14 +110,10 @@ fn cycle_on(values: &Values, count: usize, state: State, given: Given) -> Cycled
 pub fn cycle(channel: Channel, given: Given) -> Outcome
     ensures { result ≡ outcome_of channel given }
 {
-    let list = channel.list;
-    let state = channel.state;
-    let cycled = cycle_on(&list.values, list.count, state, given);
-    let after = cycled.state;
-    let causes = cycled.causes;
+    let (advanced, causes) = cycle_on(channel.list.lend(), channel.state, given);
     Outcome {
-        channel: after_cycles(channel, after, 1),
-        word: cycled.word,
+        channel: after_cycles(channel, advanced.state, 1),
+        word: advanced.word,
         causes,
     }
 }

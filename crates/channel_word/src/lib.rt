@@ -3,7 +3,6 @@
 
 ghost use Rattle.std.specs.Prelude.{◌≡◌};
 ghost use Rattle.bits.specs.Bits.{flag};
-ghost use Rattle.selection.specs.Selection.{is_effective};
 ghost use Rattle.channel_word.specs.Word.{shown_sg, is_held, shown_cams, shown_nx, placed, Parts, word_by};
 
 use machine_data::{Values, functions};
@@ -11,41 +10,19 @@ use rank::Rank;
 use selection::Selection;
 use stop::Stop;
 
-fn flag(b: bool) -> u8
-    ensures { result ≡ flag b }
-{
-    if b { 1 } else { 0 }
-}
-
-fn is_effective(s: Selection) -> bool
-    ensures { result ≡ is_effective s }
-{
-    match s {
-        Selection::Nothing => false,
-        Selection::Sg(_, _) => true,
-        Selection::Sbh => true,
-    }
-}
-
 fn shown_sg(s: Selection) -> u8
     ensures { result ≡ shown_sg s }
 {
     match s {
-        Selection::Nothing => 0,
         Selection::Sg(n, _) => n % 4,
-        Selection::Sbh => 0,
+        Selection::Nothing | Selection::Sbh => 0,
     }
 }
 
 fn is_held(s: Stop) -> bool
     ensures { result ≡ is_held s }
 {
-    match s {
-        Stop::Free => false,
-        Stop::Braking(_, _) => false,
-        Stop::Held(_, _) => true,
-        Stop::Cancelled => false,
-    }
+    matches!(s, Stop::Held(_, _))
 }
 
 // The cams, while their function is on.
@@ -66,33 +43,39 @@ fn shown_nx(values: &Values, nx: bool) -> bool
     machine_data::function(values, functions::NX) && nx
 }
 
-// The parts of a word, as numbers.
+// The parts of a word.
 #[derive(Clone, Copy)]
 struct WordParts {
-    effective: u8,
-    cancelled: u8,
+    effective: bool,
+    cancelled: bool,
     cams: u8,
     sg: u8,
-    nx: u8,
+    nx: bool,
     rank: u8,
-    held: u8,
-    fault: u8,
+    held: bool,
+    fault: bool,
 }
 
-// The parts at their places.
-fn placed(p: WordParts) -> u32
-    requires { Parts p.effective p.cancelled p.sg p.nx p.rank p.held p.fault }
-    ensures { result ≡ placed p.effective p.cancelled p.cams p.sg p.nx p.rank p.held p.fault }
-{
-    let low = (p.effective as u32) + 4 * (p.cancelled as u32) + 128 + 256 * (p.cams as u32);
-    let middle = 524288 * (p.sg as u32) + 2097152 * (p.nx as u32);
-    let high = 16777216 * (p.rank as u32)
-        + 134217728 * (p.held as u32)
-        + 268435456 * (p.fault as u32);
-    low + middle + high
+impl WordParts {
+    // The parts at their places.
+    fn placed(self) -> u32
+        requires { Parts (flag self.effective) (flag self.cancelled) self.sg (flag self.nx) self.rank (flag self.held) (flag self.fault) }
+        ensures { result ≡ placed (flag self.effective) (flag self.cancelled) self.cams self.sg (flag self.nx) self.rank (flag self.held) (flag self.fault) }
+    {
+        u32::from(self.effective)
+            + (u32::from(self.cancelled) << 2)
+            + (1 << 7)
+            + (u32::from(self.cams) << 8)
+            + (u32::from(self.sg) << 19)
+            + (u32::from(self.nx) << 21)
+            + (u32::from(self.rank) << 24)
+            + (u32::from(self.held) << 27)
+            + (u32::from(self.fault) << 28)
+    }
 }
 
 // The word of what a cycle leaves: the effective selection, the stop, F, the cams, and n<nx.
+#[tactic(auto, unfolding(crate::specs::Word::word_by))]
 pub fn channel_word(
     values: &Values,
     effective: Selection,
@@ -103,15 +86,16 @@ pub fn channel_word(
 ) -> u32
     ensures { result ≡ word_by values.now effective stop fault cams nx }
 {
-    let rank = stop.rank().number();
-    placed(WordParts {
-        effective: flag(is_effective(effective)),
-        cancelled: flag(rank == Rank::NUMBER_A),
+    let rank = stop.rank();
+    WordParts {
+        effective: effective.is_effective(),
+        cancelled: rank == Rank::A,
         cams: shown_cams(values, cams),
         sg: shown_sg(effective),
-        nx: flag(shown_nx(values, nx)),
-        rank,
-        held: flag(is_held(stop)),
-        fault: flag(fault),
-    })
+        nx: shown_nx(values, nx),
+        rank: u8::from(rank),
+        held: is_held(stop),
+        fault,
+    }
+    .placed()
 }

@@ -2,12 +2,12 @@
 #![tactic(auto)]
 
 ghost use Rattle.std.specs.Prelude.{◌≡◌, min};
-ghost use Rattle.machine_data.specs.Data.{lent};
+ghost use Rattle.machine_data.specs.Data.{list_of};
 ghost use Rattle.commit.specs.Commit.{cut_k, cut_delay, cut_choice, cut_fault, cut_stop, ended_directions, committed};
 
 use directions::Directions;
 use fault::Fault;
-use machine_data::{Values, numbers};
+use machine_data::{Lent, Values, numbers};
 use selection::Choice;
 use state::{Kept, State};
 use stop::Stop;
@@ -16,7 +16,7 @@ use stop::Stop;
 fn cut(left: u32, most: u32) -> u32
     ensures { result ≡ min left most }
 {
-    if most < left { most } else { left }
+    left.min(most)
 }
 
 // The number of the datum that is reported next, in a list of so many.
@@ -41,12 +41,9 @@ fn cut_delay(values: &Values, left: u32) -> u32
 fn cut_choice(values: &Values, choice: Choice) -> Choice
     ensures { result ≡ cut_choice values.now choice }
 {
-    let effective = choice.effective;
     Choice {
-        chosen: choice.chosen,
-        effective,
-        reference: choice.reference,
         left: cut_delay(values, choice.left),
+        ..choice
     }
 }
 
@@ -54,8 +51,8 @@ fn cut_fault(values: &Values, fault: Fault) -> Fault
     ensures { result ≡ cut_fault values.now fault }
 {
     Fault {
-        on: fault.on,
         left: cut(fault.left, machine_data::cycles(values, numbers::TIME_F)),
+        ..fault
     }
 }
 
@@ -63,10 +60,8 @@ fn cut_stop(values: &Values, stop: Stop) -> Stop
     ensures { result ≡ cut_stop values.now stop }
 {
     match stop {
-        Stop::Free => stop,
         Stop::Braking(rank, left) => Stop::Braking(rank, cut(left, rank.time(values))),
-        Stop::Held(_, _) => stop,
-        Stop::Cancelled => stop,
+        Stop::Free | Stop::Held(_, _) | Stop::Cancelled => stop,
     }
 }
 
@@ -82,27 +77,19 @@ fn ended_directions(values: &Values, directions: Directions) -> Directions
 }
 
 // The state behind the commit of a list.
-pub fn committed(values: &Values, count: usize, state: State) -> State
-    ensures { result ≡ committed (lent values.now count) state }
+pub fn committed(list: Lent, state: State) -> State
+    ensures { result ≡ committed (list_of list.entry) state }
 {
     let kept = state.kept;
-    let choice = kept.choice;
-    let fault = kept.fault;
-    let nx = kept.nx;
-    let directions = kept.directions;
-    let stop = state.stop;
-    let previous = state.previous;
     State {
-        k: cut_k(count, state.k),
+        k: cut_k(list.count, state.k),
         kept: Kept {
-            cams: kept.cams,
-            choice: cut_choice(values, choice),
-            differing: kept.differing,
-            fault: cut_fault(values, fault),
-            nx,
-            directions: ended_directions(values, directions),
+            choice: cut_choice(list.values, kept.choice),
+            fault: cut_fault(list.values, kept.fault),
+            directions: ended_directions(list.values, kept.directions),
+            ..kept
         },
-        stop: cut_stop(values, stop),
-        previous,
+        stop: cut_stop(list.values, state.stop),
+        ..state
     }
 }

@@ -9,14 +9,16 @@ use machine_data::{Values, numbers};
 use report::Report;
 
 // Cause 10.
+#[tactic(auto, unfolding(crate::specs::Comparison::position_differs))]
 pub fn position_differs(values: &Values, reading: Reading, report: Report) -> bool
     ensures { result ≡ position_differs values.now reading report }
 {
     machine_data::number(values, numbers::ALLOWED_DIFFERENCE)
-        < (distance::distance(reading.position, report.position) as u64)
+        < u64::from(distance::distance(reading.position, report.position))
 }
 
 // For how many usable cycles running the input words differ.
+#[tactic(auto, unfolding(crate::specs::Comparison::run_of))]
 pub fn run(before: u32, reading: Reading, report: Report) -> u32
     ensures { result ≡ run_of before reading report }
 {
@@ -24,6 +26,7 @@ pub fn run(before: u32, reading: Reading, report: Report) -> u32
 }
 
 // Cause 11.
+#[tactic(auto, unfolding(crate::specs::Comparison::inputs_differ))]
 pub fn inputs_differ(values: &Values, run: u32) -> bool
     ensures { result ≡ inputs_differ values.now run }
 {

@@ -1,35 +1,21 @@
 // Runs the conformance kits: for each kit file that the arguments name, a line with its name and then its listing.
 #![tactic(auto)]
 
-ghost use Rattle.std.specs.Prelude.{◌≤◌, length};
-
 use std::env::{Env, FillError};
 use std::fs::Files;
 use std::io::Read;
 use std::{fs, str};
 
 // On standard output. What cannot be written is left out, and the next that can be follows.
+// One line, so each program has its own.
 fn put(rt: &impl Print, bytes: &[u8]) {
     let _ = rt.write_all(bytes);
 }
 
-// How many bytes were read, up to the end of the file or of the room, or to where it could not be read.
-fn read_full(file: &mut impl Read, room: &mut [u8]) -> usize
-    ensures { result ≤ length room.new }
-{
-    let mut done = 0usize;
-    while done < room.len() {
-        match file.read(&mut room[done..]) {
-            Ok(0) | Err(_) => return done,
-            Ok(more) => done += more,
-        }
-    }
-    done
-}
-
 fn list_kit(rt: &impl Print, file: &mut impl Read) {
     let mut kit = [0u8; 65540];
-    let many = read_full(file, &mut kit);
+    // What was read up to a failure is listed.
+    let (many, _) = reading::fill(file, &mut kit);
     let mut text = [0u8; 74880];
     let bytes = listing::list_kit(&kit[..many], &mut text);
     put(rt, &text[..bytes]);
@@ -37,9 +23,8 @@ fn list_kit(rt: &impl Print, file: &mut impl Read) {
 
 // The file's name, without the `.kit` at its end.
 fn put_name(rt: &impl Print, path: &[u8]) {
-    if path.len() > 4 {
-        let end = path.len() - 4;
-        put(rt, &path[..end]);
+    if let Some((name, _)) = path.split_last_chunk::<4>() {
+        put(rt, name);
     }
     put(rt, b"\n");
 }

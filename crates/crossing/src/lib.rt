@@ -5,21 +5,18 @@ ghost use Rattle.std.specs.Prelude.{◌≡◌, ◌<◌};
 ghost use Rattle.crossing.specs.Words.{signed_of, unsigned_of, yes_from, yes_word};
 
 // The signed number of a word, in two's complement.
+#[tactic(auto, using(crate::proofs::Twos::signed_read))]
 pub fn signed(word: u32) -> i32
     ensures { result ≡ signed_of word }
 {
-    words::signed32(word)
+    word.cast_signed()
 }
 
 // The word of a signed number.
 pub fn unsigned(z: i32) -> u32
     ensures { result ≡ unsigned_of z }
 {
-    if z < 0 {
-        4294967295 - ((-1 - z) as u32)
-    } else {
-        z as u32
-    }
+    z.cast_unsigned()
 }
 
 // A word as yes or no: anything but 0 is yes.
@@ -33,7 +30,7 @@ pub fn yes(word: u32) -> bool
 pub fn yes_word(b: bool) -> u32
     ensures { result ≡ yes_word b }
 {
-    if b { 1 } else { 0 }
+    u32::from(b)
 }
 
 // A word as a number of things.

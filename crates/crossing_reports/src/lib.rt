@@ -11,7 +11,7 @@ use state::Given;
 // How many words a report has.
 pub const REPORT: usize = 4;
 
-// The words of a report, as they are lent.
+// The words of a report, an array and no struct: C lends them so.
 pub type ReportWords = [u32; REPORT];
 
 // The words of a report; from them the same report is read. A head of 2^32 or more, which no list has, is told modulo 2^32.

@@ -6,6 +6,7 @@ use native.Mathlib.Nat.{le_trans, le_of_eq, lt_of_lt_of_le, mul_assoc, mul-le-mu
 use native.Mathlib.Omega.{arith}
 use lib.ListN.{length}
 use lib.Pow.{pow-add, pow_mono}
+use Rattle.std.specs.Prelude.{Ok, Err}
 use Rattle.laws.proofs.Never.{never}
 use Rattle.words.specs.declared.Word.{Word}
 use Rattle.words.specs.declared.Word.TheVariants.{Piece}
@@ -14,27 +15,30 @@ use Rattle.words.specs.Cases.{if_piece}
 use Rattle.words.proofs.Cases.{no_piece, is_piece, there}
 use Rattle.words.proofs.IsWord.{read_at, piece_small}
 use Rattle.datum.specs.Datum.{pieces_at}
-use Rattle.datum.specs.declared.Pieces as P
 
 pub piece_there : (s : List ℕ) (at : ℕ) {b : ℕ} → word_at s at ≡ Piece b → at < length s
 piece_there s at h = there s at (λ e. never (cc))
 
 module _ (s : List ℕ) (at bits : ℕ) where
-  pub one_more : (n : ℕ) {b : ℕ} → 0 < n → word_at s at ≡ Piece b → pieces_at s at n bits ≡ pieces_at s (at + 1) (n - 1) (bits * 65536 + b)
-  unfolding pieces_at
-  one_more zero {b = b} p h = elim p [ ]
-  one_more (suc n) {b} p h =
-      ap (λ (x : Word). if_piece x (λ b. pieces_at s (at + 1) n (bits * 65536 + b)) (P.TheVariants.Bad at)) h
-      ∙ ap (λ (m : ℕ). pieces_at s (at + 1) m (bits * 65536 + b)) {x = n} {y = suc n - 1} (omega arith)
-
-  pub bad_here : (n : ℕ) {x : Word} → 0 < n → x ≡ word_at s at → ((b : ℕ) → x ≡ Piece b → ⊥) → P.TheVariants.Bad at ≡ pieces_at s at n bits
+  pub bad_here : (n : ℕ) {x : Word} → 0 < n → x ≡ word_at s at → ((b : ℕ) → x ≡ Piece b → ⊥) → Err at ≡ pieces_at s at n bits
   unfolding pieces_at
   bad_here zero {x = x} p e h = elim p [ ]
   bad_here (suc n) {x} p e h =
-      no_piece x h (λ b. pieces_at s (at + 1) n (bits * 65536 + b)) (P.TheVariants.Bad at)
-      ∙ ap (λ (y : Word). if_piece y (λ b. pieces_at s (at + 1) n (bits * 65536 + b)) (P.TheVariants.Bad at)) e
+      no_piece x h (λ b. pieces_at s (at + 1) n (bits * 65536 + b)) (Err at)
+      ∙ ap (λ (y : Word). if_piece y (λ b. pieces_at s (at + 1) n (bits * 65536 + b)) (Err at)) e
 
-pub none_left : (s : List ℕ) (at n bits : ℕ) → n ≤ 0 → P.TheVariants.Bits bits ≡ pieces_at s at n bits
+-- the piece behind i others
+pub one_more : (s : List ℕ) (at i n bits : ℕ) {b : ℕ} → i < n → word_at s (at + i) ≡ Piece b →
+    pieces_at s (at + (i + 1)) (n - (i + 1)) (bits * 65536 + b) ≡ pieces_at s (at + i) (n - i) bits
+unfolding pieces_at
+one_more s at i n bits {b} p h =
+    let less : n - i ≡ suc (n - (i + 1)) = omega arith in
+    let next : at + (i + 1) ≡ at + i + 1 = omega arith in
+    ap (λ (j : ℕ). pieces_at s j (n - (i + 1)) (bits * 65536 + b)) next
+    ∙ ap (λ (x : Word). if_piece x (λ b. pieces_at s (at + i + 1) (n - (i + 1)) (bits * 65536 + b)) (Err (at + i))) (sym h)
+    ∙ ap (λ (m : ℕ). pieces_at s (at + i) m bits) (sym less)
+
+pub none_left : (s : List ℕ) (at n bits : ℕ) → n ≤ 0 → Ok bits ≡ pieces_at s at n bits
 unfolding pieces_at
 none_left s at zero bits h = refl
 none_left s at (suc n) bits h = absurd (omega arith)
@@ -53,14 +57,14 @@ grown k j bits b e h g =
 
 -- ---- what was joined: its first piece, its size, and that it lies within the words
 
-pub first_piece : (s : List ℕ) (at n bits b : ℕ) → pieces_at s at (suc n) bits ≡ P.TheVariants.Bits b →
-    (p : ℕ) × (word_at s at ≡ Piece p) × (pieces_at s (at + 1) n (bits * 65536 + p) ≡ P.TheVariants.Bits b)
+pub first_piece : (s : List ℕ) (at n bits b : ℕ) → pieces_at s at (suc n) bits ≡ Ok b →
+    (p : ℕ) × (word_at s at ≡ Piece p) × (pieces_at s (at + 1) n (bits * 65536 + p) ≡ Ok b)
 unfolding pieces_at
 first_piece s at n bits b e =
-    is_piece (word_at s at) (λ p. pieces_at s (at + 1) n (bits * 65536 + p)) (P.TheVariants.Bad at) (P.TheVariants.Bits b) e
+    is_piece (word_at s at) (λ p. pieces_at s (at + 1) n (bits * 65536 + p)) (Err at) (Ok b) e
     (λ h. never (cc))
 
-pub within : (s : List ℕ) (at n bits b : ℕ) → pieces_at s at n bits ≡ P.TheVariants.Bits b → at + n ≤ max at (length s)
+pub within : (s : List ℕ) (at n bits b : ℕ) → pieces_at s at n bits ≡ Ok b → at + n ≤ max at (length s)
 within s at zero bits b e = omega arith
 within s at (suc n) bits b e =
     let p = first_piece s at n bits b e in
@@ -68,7 +72,7 @@ within s at (suc n) bits b e =
     let g = within s (at + 1) n (bits * 65536 + p.0) b p.2 in
     omega arith
 
-pub joined_small : (s : List ℕ) (at n bits b : ℕ) → pieces_at s at n bits ≡ P.TheVariants.Bits b → b < suc bits * 2 ^ (16 * n)
+pub joined_small : (s : List ℕ) (at n bits b : ℕ) → pieces_at s at n bits ≡ Ok b → b < suc bits * 2 ^ (16 * n)
 unfolding pieces_at
 joined_small s at zero bits b e = let q : bits ≡ b = cc in omega arith
 joined_small s at (suc n) bits b e =

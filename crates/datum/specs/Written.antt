@@ -2,6 +2,7 @@
 use Rattle.std.specs.Prelude.{ℕ, suc, ◌+◌, ◌*◌, ◌^◌, List, [], ◌∷◌, ℤ}
 use Rattle.std.specs.Float.{binary32, binary64}
 use Rattle.std.specs.Float.Ieee.{of_bits}
+use Rattle.words.specs.declared.Form.TheVariants.{Whole, Single, Double}
 use Rattle.words.specs.declared.Word.TheVariants.{Datum, Piece}
 use Rattle.words.specs.Words.{twos}
 use Rattle.words.specs.IsWord.{IsWord}
@@ -14,6 +15,6 @@ pub data InPieces : ℕ → ℕ → List ℕ → Type 0 where
 
 -- "A datum arrives as a 32-bit whole number, a binary32 or a binary64": the words that datum k with the value z may have
 pub data Written (k : ℕ) : ℤ → List ℕ → Type 0 where
-  whole : {w b : ℕ} {ws : List ℕ} → IsWord w (Datum k 0) → InPieces 2 b ws → Written k (twos 2147483648 b) (w ∷ ws)
-  single : {w b : ℕ} {ws : List ℕ} {z : ℤ} → IsWord w (Datum k 1) → InPieces 2 b ws → StandsFor (of_bits binary32 b) z → Written k z (w ∷ ws)
-  double : {w b : ℕ} {ws : List ℕ} {z : ℤ} → IsWord w (Datum k 2) → InPieces 4 b ws → StandsFor (of_bits binary64 b) z → Written k z (w ∷ ws)
+  whole : {w b : ℕ} {ws : List ℕ} → IsWord w (Datum k Whole) → InPieces 2 b ws → Written k (twos 2147483648 b) (w ∷ ws)
+  single : {w b : ℕ} {ws : List ℕ} {z : ℤ} → IsWord w (Datum k Single) → InPieces 2 b ws → StandsFor (of_bits binary32 b) z → Written k z (w ∷ ws)
+  double : {w b : ℕ} {ws : List ℕ} {z : ℤ} → IsWord w (Datum k Double) → InPieces 4 b ws → StandsFor (of_bits binary64 b) z → Written k z (w ∷ ws)

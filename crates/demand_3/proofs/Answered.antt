@@ -22,7 +22,7 @@ answer c (single g other) =
     record { channel = r.channel; words = record { channel = r.word; device = r.device } ∷ []; is = cycled r refl }
 answer c (logged s o words out) =
     let x = ran_of (own s c o) (own s o c) words out in
-    let r : LogRun = record { answer = x.answer; a = x.a; b = x.b } in
+    let r : LogRun Channel = record { answer = x.answer; a = x.a; b = x.b } in
     record {
       channel = own s x.a x.b;
       words = _;

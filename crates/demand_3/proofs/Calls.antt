@@ -4,6 +4,7 @@ use mathlib.Core.Bool.{Bool, true, false, cond}
 use mathlib.Core.List.{List, [], ◌∷◌}
 use mathlib.Core.Path.{refl, ap, subst}
 use lib.Dec.{eqb}
+use Rattle.std.specs.Prelude.{Ok, Err}
 use Rattle.machine_data.specs.declared.MachineData.{MachineData}
 use Rattle.state.specs.declared.State.{State}
 use Rattle.channel.specs.declared.Channel.{Channel}
@@ -14,7 +15,6 @@ use Rattle.refusal.specs.declared.Refusal.TheVariants.{NothingPending}
 use Rattle.single.specs.declared.SingleOutcome.{SingleOutcome}
 use Rattle.pending.specs.declared.Asked.{Asked}
 use Rattle.pending.specs.declared.CommitRun.{CommitRun}
-use Rattle.pending.specs.declared.CommitAnswer.TheVariants.{Taken, Refused}
 use Rattle.pending.specs.Pending.{taking}
 use Rattle.demand_3.specs.Calls.{Call, own, Words, Answered, cycled, ran, asked, took, Answers, none, then}
 use Rattle.demand_3.specs.History.{cycles_of, commit, as_cycles, events_in, pending_behind, events_of}
@@ -35,7 +35,7 @@ call_leads {c} (asked a e) = rw (ap (λ (x : Asked). x.channel) e) (record { pen
 call_leads {c} (took a e) = rw (ap (λ (x : CommitRun). x.channel) e) (go (eqb c.pending.count 0))
   where
     go : (none : Bool) → Leads c (cond none [] (commit c.pending ∷ [])) [] (cond none c.pending no_list)
-        (cond {A = CommitRun} none (record { answer = Refused NothingPending; channel = c }) (record { answer = Taken; channel = taking c c.pending })
+        (cond {A = CommitRun} none (record { answer = Err NothingPending; channel = c }) (record { answer = Ok tt; channel = taking c c.pending })
         ).channel
     go true = record { pending = refl; trace = done }
     go false = record { pending = refl; trace = take done }

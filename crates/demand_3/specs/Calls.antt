@@ -1,12 +1,11 @@
 -- The calls of demand 3 and what they answer: document 01, "The runs of demand 3", and W7.
-use Rattle.std.specs.Prelude.{ℕ, zero, suc, ◌+◌, ◌*◌, ◌≡◌, List, [], ◌∷◌, ◌++◌, get_or}
+use Rattle.std.specs.Prelude.{ℕ, zero, suc, ◌+◌, ◌*◌, ◌≡◌, List, [], ◌∷◌, ◌++◌, get_or, Result, Ok, Err}
 use Rattle.inputs.specs.declared.Reading.{Reading}
 use Rattle.report.specs.declared.Report.{Report}
 use Rattle.state.specs.declared.Given.{Given}
 use Rattle.channel.specs.declared.Channel.{Channel}
 use Rattle.logs.specs.declared.LogRun.{LogRun}
-use Rattle.logs.specs.declared.LogAnswer.{LogAnswer}
-use Rattle.logs.specs.declared.LogAnswer.TheVariants.{Accepted, Refused}
+use Rattle.refusal.specs.declared.Refusal.{Refusal}
 use Rattle.logs.specs.Run.{ran_of}
 use Rattle.logs.specs.Left.{left_by}
 use Rattle.single.specs.declared.SingleOutcome.{SingleOutcome}
@@ -51,16 +50,16 @@ words_from s out i zero = []
 words_from s out i (suc n) = words_at s out i ∷ words_from s out (suc i) n
 
 -- "The number of cycles" comes back
-abbrev pub answered_words : Side → LogAnswer → List ℕ → List Words
-answered_words s (Accepted n) out = words_from s out 0 n
-answered_words s (Refused why) out = []
+abbrev pub answered_words : Side → Result ℕ Refusal → List ℕ → List Words
+answered_words s (Ok n) out = words_from s out 0 n
+answered_words s (Err why) out = []
 
 -- a call with the working channel c is answered: the channel that it returns or leaves, and the words that it gives. What is asked
 -- of the answer is what the contracts of the functions ensure, and no more.
 pub data Answered (c : Channel) : Call → Channel → List Words → Type 0 where
   cycled : {g : Given} {other : ℕ} (r : SingleOutcome) → r ≡ single_of c g other →
       Answered c (single g other) r.channel (record { channel = r.word; device = r.device } ∷ [])
-  ran : {s : Side} {o : Channel} {words out : List ℕ} (r : LogRun) (out' : List ℕ) → left_by r out' ≡ ran_of (own s c o) (own s o c) words out →
+  ran : {s : Side} {o : Channel} {words out : List ℕ} (r : LogRun Channel) (out' : List ℕ) → left_by r out' ≡ ran_of (own s c o) (own s o c) words out →
       Answered c (logged s o words out) (own s r.a r.b) (answered_words s r.answer out')
   asked : {words : List ℕ} {r : Reading} {o : Report} (a : Asked) → a ≡ asked_of c words r o → Answered c (asks words r o) a.channel []
   took : (a : CommitRun) → a ≡ commit_of c → Answered c commits a.channel []

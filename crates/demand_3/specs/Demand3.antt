@@ -36,12 +36,11 @@
 -- after n and up to m clears. `Bounds n i l` says that a count which runs in cycle n reads its time in list l, counted from cycle i: the list in force in n,
 -- from n; or a list committed behind n, from the next cycle. A datum is read by `number_of`, in an accepted list as it stands there
 -- (machine_data/proofs/Stands.antt). `binds` takes "X or stricter" as equal to X or stricter by the order of step 3, `binds_by_order` as not laxer than X: two
--- SG of equal limit × percent are neither stricter; both follow from `one_of_lem`. `differing_off` asks that one of SBH, SG, SE and cams is active in every usable
+-- SG of equal limit × percent are neither stricter; both follow from `one_of`. `differing_off` asks that one of SBH, SG, SE and cams is active in every usable
 -- cycle from n up to m; `ended_off`, which implies it, and `ended_at_once` ask it of one cycle. Where nothing is committed the list in force is the first one,
 -- and the bounds are those of document 01 (OneList.antt). Wordings that would be false are in crates/worked/specs/Wordings.antt.
-use Rattle.std.specs.Prelude.{ℕ, List, ◌≡◌, get_or, length}
+use Rattle.std.specs.Prelude.{ℕ, List, ◌≡◌, get_or, length, Ok}
 use Rattle.machine_data.specs.declared.MachineData.{MachineData}
-use Rattle.list.specs.declared.ListAnswer.TheVariants.{Accepted}
 use Rattle.list.specs.Reading.{read_list}
 use Rattle.channel.specs.Cycle.{fresh_channel}
 use Rattle.demand_3.specs.Calls.{Call, Words, Answers}
@@ -64,5 +63,5 @@ Demanded m calls given =
 -- "a single claim about the list"
 abbrev pub Demand3 : Type 0
 Demand3 =
-    (s : List ℕ) (n : ℕ) → (read_list s).answer ≡ Accepted n →
+    (s : List ℕ) (n : ℕ) → (read_list s).answer ≡ Ok n →
     (calls : List Call) (given : List Words) → Answers (fresh_channel (read_list s).list) calls given → Demanded (read_list s).list calls given

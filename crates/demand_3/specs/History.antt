@@ -1,6 +1,6 @@
 -- The cycles and the commits of the calls, and what steps 1 to 5 and W7 make of them: document 01, "The runs of demand 3". Nothing here is read from a
 -- returned channel: the lists are made of the calls' words.
-use Rattle.std.specs.Prelude.{ℕ, zero, suc, false, cond, List, [], ◌∷◌, ◌++◌, eqb, get_or, length, pos}
+use Rattle.std.specs.Prelude.{ℕ, zero, suc, false, cond, List, [], ◌∷◌, ◌++◌, eqb, get_or, length, pos, Result, Ok, Err}
 use Rattle.machine_data.specs.declared.MachineData.{MachineData}
 use Rattle.seven.specs.declared.CycleRecord.{CycleRecord}
 use Rattle.records.specs.Records.{LogRead, records, fault, log_of}
@@ -11,8 +11,7 @@ use Rattle.state.specs.State.{fresh_state}
 use Rattle.report.specs.Report.{next_k, report_of}
 use Rattle.commit.specs.Commit.{committed}
 use Rattle.channel.specs.Cycle.{no_list, behind, next}
-use Rattle.logs.specs.declared.LogAnswer.{LogAnswer}
-use Rattle.logs.specs.declared.LogAnswer.TheVariants.{Accepted, Refused}
+use Rattle.refusal.specs.declared.Refusal.{Refusal}
 use Rattle.logs.specs.Run.{ran_of}
 use Rattle.demand_3.specs.Calls.{Side, own, Call, single, logged, asks, commits}
 
@@ -32,9 +31,9 @@ abbrev pub records_in : LogRead → List CycleRecord
 records_in (records rs) = rs
 records_in (fault place) = []
 
-abbrev pub records_run : LogAnswer → LogRead → List CycleRecord
-records_run (Accepted n) l = records_in l
-records_run (Refused why) l = []
+abbrev pub records_run : Result ℕ Refusal → LogRead → List CycleRecord
+records_run (Ok n) l = records_in l
+records_run (Err why) l = []
 
 -- the cycles of a call; a log's answer is the same whatever channels it is given with (proofs/OfLog.antt), and is asked here with the other one twice
 unfoldable pub cycles_of : Call → List Given

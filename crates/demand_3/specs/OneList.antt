@@ -1,5 +1,5 @@
 -- Demand 3 where no call commits: one list is in force throughout, and the bounds are those of document 01 in its own words. proofs/OneList.antt shows it.
-use Rattle.std.specs.Prelude.{ℕ, ◌+◌, ◌≤◌, ◌<◌, List, [], ◌⊎◌, ◌≡◌, T, length}
+use Rattle.std.specs.Prelude.{ℕ, ◌+◌, ◌≤◌, ◌<◌, List, [], ◌⊎◌, ◌≡◌, T, length, Ok}
 use Rattle.bits.specs.Bits.{bit_of}
 use Rattle.machine_data.specs.declared.MachineData.{MachineData}
 use Rattle.machine_data.specs.Data.{number_of}
@@ -8,7 +8,6 @@ use Rattle.usable_inputs.specs.Usable.{usable_of}
 use Rattle.selection.specs.declared.Selection.{Selection}
 use Rattle.rank.specs.declared.Rank.{Rank}
 use Rattle.rank.specs.Rank.{rank_number, time_of}
-use Rattle.list.specs.declared.ListAnswer.TheVariants.{Accepted}
 use Rattle.list.specs.Reading.{read_list}
 use Rattle.state.specs.declared.State.{State}
 use Rattle.state.specs.declared.Given.{Given}
@@ -54,6 +53,6 @@ module _ (m : MachineData) (cs : ℕ → Given) where
 
 abbrev pub OneList : Type 0
 OneList =
-    (s : List ℕ) (n : ℕ) → (read_list s).answer ≡ Accepted n →
+    (s : List ℕ) (n : ℕ) → (read_list s).answer ≡ Ok n →
     (calls : List Call) → All NoCommit calls → (given : List Words) → Answers (fresh_channel (read_list s).list) calls given →
     ByOneList (read_list s).list (cycle_at (all_cycles calls)) (length (all_cycles calls)) (λ i. (words_in given i).channel) (λ i. (words_in given i).device)

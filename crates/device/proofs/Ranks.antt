@@ -1,23 +1,19 @@
 -- What the device word says of the two channel words: its fields are the parts of the sum that makes it. Assumes nothing.
-use Prim.Native.Nat.{ℕ, ◌≤◌, ◌<◌, max}
-use mathlib.Core.Bool.{Bool, true, false, cond, ◌||◌}
+use Prim.Native.Nat.{ℕ, ◌≤◌, ◌<◌}
 use mathlib.Core.Logic.{◌⊎◌, inl, inr}
-use mathlib.Core.Path.{◌≡◌, refl, sym, ◌∙◌}
+use mathlib.Core.Path.{◌≡◌, sym, ◌∙◌}
 use native.Mathlib.Omega.{arith}
-use borrow.Author.Tests.{lt-ltb, le-ltb, ltb-true, ltb-false}
+use borrow.Author.Tests.{lt-ltb, le-ltb, ltb-true}
 use lib.Dec.{ltb}
-use Rattle.bits.specs.Bits.{bit_of, field_of, flag}
+use Rattle.std.proofs.lemmas.Bool.{cases_lt}
+use Rattle.std.proofs.lemmas.Grind.{common_steps}
+use Rattle.bits.specs.Bits.{field_of, flag}
 use Rattle.bits.proofs.Fields.{flag_small, flag_is, field}
 use Rattle.device.specs.Device.{word_rank, device_rank, device_of}
 
 pub word_rank_most : (w : ℕ) → word_rank w ≤ 5
 unfolding word_rank
-word_rank_most w = go (bit_of w 2) (ltb 5 (field_of w 24 8)) refl
-  where
-    go : (s t : Bool) → ltb 5 (field_of w 24 8) ≡ t → cond (s || t) 5 (field_of w 24 8) ≤ 5
-    go true t e = omega arith
-    go false true e = omega arith
-    go false false e = ltb-false 5 (field_of w 24 8) e
+word_rank_most w = grind (arith, common_steps)
 
 pub record Device (v w : ℕ) : Type 0 where
   -- "Device rank is the greater"
@@ -32,10 +28,6 @@ pub record Device (v w : ℕ) : Type 0 where
   pub on : device_rank v w < 5 → field_of (device_of v w) 0 2 ≡ 1
   pub on_below : field_of (device_of v w) 0 2 ≡ 1 → device_rank v w < 5
   pub off : device_rank v w ≡ 5 → field_of (device_of v w) 0 2 ≡ 0
-
-greater_either : (a b : ℕ) (t : Bool) → ltb a b ≡ t → (max a b ≡ a) ⊎ (max a b ≡ b)
-greater_either a b true e = inr (omega (arith, ltb-true a b e))
-greater_either a b false e = inl (omega (arith, ltb-false a b e))
 
 module _ (v w : ℕ) where
   pub device_rank_most : device_rank v w ≤ 5
@@ -52,7 +44,7 @@ module _ (v w : ℕ) where
       record {
         first = omega arith;
         second = omega arith;
-        either = greater_either (word_rank v) (word_rank w) (ltb (word_rank v) (word_rank w)) refl;
+        either = elim (cases_lt (word_rank v) (word_rank w)) [ inl h ↦ inr (omega arith) | inr h ↦ inl (omega arith) ];
         most = device_rank_most;
         rank = field 1 (flag (ltb (device_rank v w) 5)) 0 (device_of v w) (flag_small (ltb (device_rank v w) 5)) 8 (device_rank v w) (omega (arith, device_rank_most)) (omega arith);
         pulses = pulses_bit;

@@ -1,4 +1,5 @@
 -- The same where nothing is committed, of one list and its own history. Assumes nothing.
+use Rattle.std.specs.Prelude.{Some}
 use Prim.Native.Nat.{ℕ, suc, ◌+◌, ◌≤◌}
 use mathlib.Core.Logic.{◌↔◌}
 use mathlib.Core.Path.{◌≡◌, refl, subst}
@@ -9,7 +10,6 @@ use Rattle.machine_data.specs.declared.MachineData.{MachineData}
 use Rattle.machine_data.specs.Data.{number_of}
 use Rattle.runs.specs.Running.{Running}
 use Rattle.direction.specs.declared.Sign.{Sign}
-use Rattle.direction.specs.declared.Watch.TheVariants.{On}
 use Rattle.directions.specs.declared.Directions.{Directions}
 use Rattle.directions.specs.Directions.{no_directions}
 use Rattle.direction_laws.specs.Since.{bound}
@@ -45,7 +45,7 @@ module _ (m : MachineData) (cs : ℕ → Given) (n : ℕ) where
 
   -- the watch that directions leave stands where it runs
   abbrev WatchRunsIn : (ℕ → MachineData) → (ℕ → Given) → Sign → Directions → Type 0
-  WatchRunsIn L G sign x = ((e : ℤ) × ((of_sign sign x).watch ≡ On e)) ↔ Running (usable_in L G) (bound (free_in L G sign)) (number_of m.values 70) n
+  WatchRunsIn L G sign x = ((e : ℤ) × ((of_sign sign x).watch ≡ Some e)) ↔ Running (usable_in L G) (bound (free_in L G sign)) (number_of m.values 70) n
 
   pub one_watch_runs : Directed m → T (usable_in (λ i. m) cs n) → (sign : Sign) →
       WatchRunsIn (λ i. m) cs sign (history m cs (suc n)).kept.directions

@@ -1,5 +1,6 @@
 -- Cause 14 and the watches stand where W6 says so of the cycles, and only there: by the law of a direction over numbered cycles, for either sign, of the
 -- directions that cycles alone make from none on; those of a history are the same as long as no commit ends them. Assumes nothing.
+use Rattle.std.specs.Prelude.{Option, None, Some, is_some}
 use Prim.Native.Nat.{ℕ, zero, suc, ◌+◌, ◌≤◌, min}
 use mathlib.Core.Bool.{Bool, true, false, cond, ◌&&◌, ◌||◌}
 use mathlib.Core.List.Memᴰ
@@ -21,8 +22,6 @@ use Rattle.direction.specs.declared.Sign.{Sign}
 use Rattle.direction.specs.declared.Sign.TheVariants.{Positive, Negative}
 use Rattle.direction.specs.declared.Direction.{Direction}
 use Rattle.directions.specs.declared.Directions.{Directions}
-use Rattle.direction.specs.declared.Watch.{Watch}
-use Rattle.direction.specs.declared.Watch.TheVariants.{Off, On}
 use Rattle.direction.specs.Direction.{no_direction, direction_next, beyond_by}
 use Rattle.directions.specs.Directions.{no_directions, directions_next, overstepped, watched_of}
 use Rattle.direction_laws.specs.Since.{bound, Beyond}
@@ -112,10 +111,10 @@ module _ (L : ℕ → MachineData) (G : ℕ → Given) where
         T (beyond_by (L n).values sign (position_in L G n) (direction_before sign (suc n)).watch)
     since_beyond = D.since_beyond (watching_in L G) (free_in L G sign) (position_in L G) (λ n. (L n).values) sign (direction_before sign) (fresh sign) (direction_at sign)
 
-    watch_set : (n : ℕ) → SetSince (watching_in L G) (bound (free_in L G sign)) (free_in L G sign) (delay_in L G) n → T (D.stands (direction_before sign (suc n)).watch)
+    watch_set : (n : ℕ) → SetSince (watching_in L G) (bound (free_in L G sign)) (free_in L G sign) (delay_in L G) n → T (is_some (direction_before sign (suc n)).watch)
     watch_set = D.watch_set (watching_in L G) (free_in L G sign) (position_in L G) (λ n. (L n).values) sign (direction_before sign) (fresh sign) (direction_at sign)
 
-    set_watch : (n : ℕ) → T (D.stands (direction_before sign (suc n)).watch) → SetSince (watching_in L G) (bound (free_in L G sign)) (free_in L G sign) (delay_in L G) n
+    set_watch : (n : ℕ) → T (is_some (direction_before sign (suc n)).watch) → SetSince (watching_in L G) (bound (free_in L G sign)) (free_in L G sign) (delay_in L G) n
     set_watch = D.set_watch (watching_in L G) (free_in L G sign) (position_in L G) (λ n. (L n).values) sign (direction_before sign) (fresh sign) (direction_at sign)
 
   -- a direction is overstepped in cycle n, by the directions that it leaves
@@ -185,14 +184,14 @@ module _ (L : ℕ → MachineData) (G : ℕ → Given) (i t : ℕ) (one : (k : �
   delays : (n : ℕ) → number_of (data_at n) 70 ≡ t
   delays n = (one (min n i) (omega arith)).1
 
-  watch_running : T (usable_in L G i) → T (D.stands (met_at (suc i)).watch) → Running (usable_in L G) (bound (free_in L G sign)) t i
+  watch_running : T (usable_in L G i) → T (is_some (met_at (suc i)).watch) → Running (usable_in L G) (bound (free_in L G sign)) t i
   watch_running u h =
       D.watch_running (usable_in L G) (free_in L G sign) (position_in L G) data_at sign counted none goes t delays i u
-      (subst (λ (x : Direction). T (D.stands x.watch)) (sym (same (suc i) (omega arith))) h)
+      (subst (λ (x : Direction). T (is_some x.watch)) (sym (same (suc i) (omega arith))) h)
 
-  running_watch : Running (usable_in L G) (bound (free_in L G sign)) t i → T (D.stands (met_at (suc i)).watch)
+  running_watch : Running (usable_in L G) (bound (free_in L G sign)) t i → T (is_some (met_at (suc i)).watch)
   running_watch r =
-      subst (λ (x : Direction). T (D.stands x.watch)) (same (suc i) (omega arith))
+      subst (λ (x : Direction). T (is_some x.watch)) (same (suc i) (omega arith))
       (D.running_watch (usable_in L G) (free_in L G sign) (position_in L G) data_at sign counted none goes t delays i r)
 
 -- ---- commits
@@ -278,15 +277,15 @@ module _ (m : MachineData) (commits : ℕ → List MachineData) (cs : ℕ → Gi
         stands_14 (L (c + i)) (S (c + i)) (cs (c + i)) ∙ ap (λ x. watching_in Lc Gc i && overstepped (Lc i).values (position_in Lc Gc i) x) left_at
 
     -- a watch that stands has an extreme
-    watched : (sign : Sign) → T (D.stands (direction_before Lc Gc sign (suc i)).watch) → WatchedAfter m commits cs sign (c + i)
-    watched sign t = subst (λ x. (e : ℤ) × ((of_sign sign x).watch ≡ On e)) (sym left_at) (extreme_of (direction_before Lc Gc sign (suc i)).watch t)
+    watched : (sign : Sign) → T (is_some (direction_before Lc Gc sign (suc i)).watch) → WatchedAfter m commits cs sign (c + i)
+    watched sign t = subst (λ x. (e : ℤ) × ((of_sign sign x).watch ≡ Some e)) (sym left_at) (extreme_of (direction_before Lc Gc sign (suc i)).watch t)
       where
-        extreme_of : (w : Watch) → T (D.stands w) → (e : ℤ) × (w ≡ On e)
-        extreme_of Off t = absurd t
-        extreme_of (On e) t = (e, refl)
+        extreme_of : (w : Option ℤ) → T (is_some w) → (e : ℤ) × (w ≡ Some e)
+        extreme_of None t = absurd t
+        extreme_of (Some e) t = (e, refl)
 
-    stands_if : (sign : Sign) → WatchedAfter m commits cs sign (c + i) → T (D.stands (direction_before Lc Gc sign (suc i)).watch)
-    stands_if sign w = subst (λ x. T (D.stands (of_sign sign x).watch)) left_at (subst (λ (x : Watch). T (D.stands x)) (sym w.1) tt)
+    stands_if : (sign : Sign) → WatchedAfter m commits cs sign (c + i) → T (is_some (direction_before Lc Gc sign (suc i)).watch)
+    stands_if sign w = subst (λ x. T (is_some (of_sign sign x).watch)) left_at (subst (λ (x : Option ℤ). T (is_some x)) (sym w.1) tt)
 
 pub cause_14 : Cause14
 cause_14 m commits cs c i from =

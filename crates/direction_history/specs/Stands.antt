@@ -1,7 +1,7 @@
 -- When a watch stands and when cause 14 does: W6, over every history that the calls of demand 3 give a fresh channel, commits (W7) among them, and with no run,
 -- watch or extreme kept. A commit of a list without the function ends runs and watches, be another list with it committed before the next cycle or not; so each
 -- claim counts the cycles from one before which none stands. proofs/Stands.antt shows all of them.
-use Rattle.std.specs.Prelude.{ℕ, ◌+◌, ◌≤◌, ◌<◌, Bool, true, false, ◌&&◌, ◌↔◌, ◌≡◌, ℤ, T}
+use Rattle.std.specs.Prelude.{ℕ, ◌+◌, ◌≤◌, ◌<◌, Bool, true, false, ◌&&◌, ◌↔◌, ◌≡◌, ℤ, T, Some}
 use mathlib.Core.List.{List, Memᴰ}
 use Rattle.machine_data.specs.declared.MachineData.{MachineData}
 use Rattle.machine_data.specs.Data.{number_of, function_of}
@@ -12,7 +12,6 @@ use Rattle.direction.specs.declared.Sign.{Sign}
 use Rattle.direction.specs.declared.Sign.TheVariants.{Positive, Negative}
 use Rattle.direction.specs.declared.Direction.{Direction}
 use Rattle.directions.specs.declared.Directions.{Directions}
-use Rattle.direction.specs.declared.Watch.TheVariants.{On}
 use Rattle.directions.specs.Directions.{no_directions}
 use Rattle.direction_laws.specs.Since.{bound, Beyond}
 use Rattle.state.specs.declared.Given.{Given}
@@ -98,7 +97,7 @@ module _ (m : MachineData) (commits : ℕ → List MachineData) (cs : ℕ → Gi
 
   -- a watch stands after cycle n
   abbrev pub WatchedAfter : Sign → ℕ → Type 0
-  WatchedAfter sign n = (e : ℤ) × ((of_sign sign (left n)).watch ≡ On e)
+  WatchedAfter sign n = (e : ℤ) × ((of_sign sign (left n)).watch ≡ Some e)
 
 -- "this is cause 14": it stands in a cycle if and only if for one of the directions "the position is more than the tolerance below the highest in the usable
 -- cycles since the watch began", or its mirror

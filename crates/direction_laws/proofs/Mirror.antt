@@ -3,21 +3,20 @@ use Prim.Native.Nat.{ℕ}
 use mathlib.Core.Bool.{Bool, true, false, cond}
 use mathlib.Core.List.{List}
 use mathlib.Core.Path.{◌≡◌, refl, ap, ◌∙◌}
+use Rattle.std.specs.Prelude.{Option, None, Some}
 use lib.Dec.{ltb}
 use lib.IntN.{ℤ, pos, neg_ℤ}
 use lib.Signed.{lt_z}
 use Rattle.machine_data.specs.Data.{number_of}
 use Rattle.runs.specs.Run.{run_next}
 use Rattle.direction.specs.declared.Sign.{Sign}
-use Rattle.direction.specs.declared.Watch.{Watch}
-use Rattle.direction.specs.declared.Watch.TheVariants.{Off, On}
 use Rattle.direction.specs.declared.Direction.{Direction}
 use Rattle.direction.specs.Direction.{ahead, furthest, watch_next, direction_next, beyond_by}
 use Rattle.direction_laws.proofs.Signs.{opposite, mirror}
 
-abbrev mirrored_watch : Watch → Watch
-mirrored_watch Off = Off
-mirrored_watch (On extreme) = On (neg_ℤ extreme)
+abbrev mirrored_watch : Option ℤ → Option ℤ
+mirrored_watch None = None
+mirrored_watch (Some extreme) = Some (neg_ℤ extreme)
 
 abbrev mirrored : Direction → Direction
 mirrored x = record { run = x.run; watch = mirrored_watch x.watch }
@@ -31,19 +30,19 @@ module _ (d : List ℤ) (sign : Sign) (p : ℤ) where
       go true = refl
       go false = refl
 
-  mirrored_watch_lem : (run : ℕ) (w : Watch) → watch_next d (opposite sign) run (neg_ℤ p) (mirrored_watch w) ≡ mirrored_watch (watch_next d sign run p w)
-  mirrored_watch_lem run Off = go (ltb (number_of d 70) run)
+  mirrored_watch_lem : (run : ℕ) (w : Option ℤ) → watch_next d (opposite sign) run (neg_ℤ p) (mirrored_watch w) ≡ mirrored_watch (watch_next d sign run p w)
+  mirrored_watch_lem run None = go (ltb (number_of d 70) run)
     where
-      go : (t : Bool) → cond t (On (neg_ℤ p)) Off ≡ mirrored_watch (cond t (On p) Off)
+      go : (t : Bool) → cond t (Some (neg_ℤ p)) None ≡ mirrored_watch (cond t (Some p) None)
       go true = refl
       go false = refl
-  mirrored_watch_lem run (On e) = ap On (mirrored_furthest e)
+  mirrored_watch_lem run (Some e) = ap Some (mirrored_furthest e)
 
   pub mirrored_next : (free : Bool) (x : Direction) → direction_next d (opposite sign) free (neg_ℤ p) (mirrored x) ≡ mirrored (direction_next d sign free p x)
   unfolding direction_next
   mirrored_next true x = refl
   mirrored_next false x = λ i. record { run = run_next true x.run; watch = mirrored_watch_lem (run_next true x.run) x.watch i }
 
-  pub mirrored_beyond : (w : Watch) → beyond_by d (opposite sign) (neg_ℤ p) (mirrored_watch w) ≡ beyond_by d sign p w
-  mirrored_beyond Off = refl
-  mirrored_beyond (On e) = ap (lt_z (pos (number_of d 69))) (mirror sign e p)
+  pub mirrored_beyond : (w : Option ℤ) → beyond_by d (opposite sign) (neg_ℤ p) (mirrored_watch w) ≡ beyond_by d sign p w
+  mirrored_beyond None = refl
+  mirrored_beyond (Some e) = ap (lt_z (pos (number_of d 69))) (mirror sign e p)

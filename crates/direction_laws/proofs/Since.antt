@@ -9,6 +9,7 @@ use native.Mathlib.Decide.{dec_le}
 use native.Mathlib.Nat.{not-suc-le-zero}
 use native.Mathlib.Omega.{arith}
 use borrow.Author.Tests.{ltb-true, lt-ltb}
+use Rattle.std.specs.Prelude.{Option, None, Some, is_some}
 use lib.Dec.{T, ltb}
 use lib.IntN.{ℤ, pos}
 use lib.Signed.{lt_z}
@@ -21,8 +22,6 @@ use Rattle.runs.specs.Since.{SetSince}
 use Rattle.runs.proofs.Running.{above_running, running_above, still_running}
 use Rattle.runs.proofs.Since
 use Rattle.direction.specs.declared.Sign.{Sign}
-use Rattle.direction.specs.declared.Watch.{Watch}
-use Rattle.direction.specs.declared.Watch.TheVariants.{Off, On}
 use Rattle.direction.specs.declared.Direction.{Direction}
 use Rattle.direction.specs.Direction.{ahead, furthest, watch_next, no_direction, direction_next, beyond_by}
 use Rattle.direction.proofs.Extreme.{taken_in, left_out}
@@ -30,9 +29,8 @@ use Rattle.direction_laws.specs.Since.{bound, Beyond}
 use Rattle.direction_laws.proofs.Signs.{through, back, itself, NotAhead, neither_ahead, turned_not_ahead, farther}
 
 -- whether there is a watch
-abbrev pub stands : Watch → Bool
-stands Off = false
-stands (On extreme) = true
+abbrev pub stands : Option ℤ → Bool
+stands watch = is_some watch
 
 part : {X Y : Type 0} (f : X → Y) (u : Bool) (x y : X) → f (cond u x y) ≡ cond u (f x) (f y)
 part f true x y = refl
@@ -51,7 +49,7 @@ module _ (d : List ℤ) (sign : Sign) (p : ℤ) (x : Direction) where
   stands_next true = refl
   stands_next false = go x.watch
     where
-      begun : (t : Bool) → stands (cond t (On p) Off) ≡ cond t true false
+      begun : (t : Bool) → stands (cond t (Some p) None) ≡ cond t true false
       begun true = refl
       begun false = refl
 
@@ -59,9 +57,9 @@ module _ (d : List ℤ) (sign : Sign) (p : ℤ) (x : Direction) where
       kept true = refl
       kept false = refl
 
-      go : (w : Watch) → stands (watch_next d sign (run_next true x.run) p w) ≡ cond (ltb (number_of d 70) (run_next true x.run)) true (stands w)
-      go Off = begun (ltb (number_of d 70) (run_next true x.run))
-      go (On extreme) = kept (ltb (number_of d 70) (run_next true x.run))
+      go : (w : Option ℤ) → stands (watch_next d sign (run_next true x.run) p w) ≡ cond (ltb (number_of d 70) (run_next true x.run)) true (stands w)
+      go None = begun (ltb (number_of d 70) (run_next true x.run))
+      go (Some extreme) = kept (ltb (number_of d 70) (run_next true x.run))
 
 -- ---- numbered cycles: x n is the direction before cycle n, d n the data of its list
 
@@ -135,11 +133,11 @@ module _ (usable free : ℕ → Bool) (position : ℕ → ℤ) (d : ℕ → List
       (λ (low : a < n). Since.stays usable (bound free) free delay on ran off on_at tells told apart n (h n low (omega arith)) (kept_on a n low t (λ i p q. h i p (omega (arith, q)))))
       (λ k. subst (λ (j : ℕ). T (on (suc j))) (omega (arith, l, k)) t)
 
-  watch_at : (n : ℕ) → (x (suc n)).watch ≡ cond (usable n) (cond (free n) Off (watch_next (d n) sign (run_next true (run n)) (position n) (x n).watch)) (x n).watch
+  watch_at : (n : ℕ) → (x (suc n)).watch ≡ cond (usable n) (cond (free n) None (watch_next (d n) sign (run_next true (run n)) (position n) (x n).watch)) (x n).watch
   unfolding direction_next
   watch_at n =
       ap (λ (y : Direction). y.watch) (goes n) ∙ part (λ (y : Direction). y.watch) (usable n) _ _
-      ∙ ap (λ (w : Watch). cond (usable n) w (x n).watch) (part (λ (y : Direction). y.watch) (free n) _ _)
+      ∙ ap (λ (w : Option ℤ). cond (usable n) w (x n).watch) (part (λ (y : Direction). y.watch) (free n) _ _)
 
   -- the extreme of the watch before cycle n: the position of a cycle in which the watch stood, and no other since is ahead of it
   record Extreme (n : ℕ) (e : ℤ) : Type 0 where
@@ -184,30 +182,30 @@ module _ (usable free : ℕ → Bool) (position : ℕ → ℤ) (d : ℕ → List
             (λ l. let same : n ≡ i = omega (arith, p, l) in subst (λ (j : ℕ). NotAhead (ahead sign (position j) (position n))) same (subst NotAhead (sym (itself sign (position n))) (λ z. z)));
       }
 
-  extreme_at : (n : ℕ) (e : ℤ) → (x n).watch ≡ On e → Extreme n e
+  extreme_at : (n : ℕ) (e : ℤ) → (x n).watch ≡ Some e → Extreme n e
   extreme_at zero e q = absurd (true≢false (sym (ap stands q) ∙ off))
   extreme_at (suc n) e q = go (usable n) refl (free n) refl (x n).watch refl (sym (watch_at n) ∙ q) (extreme_at n)
     where
       standing : T (on (suc n))
-      standing = subst (λ (w : Watch). T (stands w)) (sym q) tt
+      standing = subst (λ (w : Option ℤ). T (stands w)) (sym q) tt
 
       bound_if : free n ≡ false → T (usable n) → T (free n) → ⊥
       bound_if e u f = subst T e f
 
-      go : (u : Bool) → usable n ≡ u → (f : Bool) → free n ≡ f → (w : Watch) → (x n).watch ≡ w →
-          cond u (cond f Off (watch_next (d n) sign (run_next true (run n)) (position n) w)) w ≡ On e → ((e' : ℤ) → (x n).watch ≡ On e' → Extreme n e') → Extreme (suc n) e
+      go : (u : Bool) → usable n ≡ u → (f : Bool) → free n ≡ f → (w : Option ℤ) → (x n).watch ≡ w →
+          cond u (cond f None (watch_next (d n) sign (run_next true (run n)) (position n) w)) w ≡ Some e → ((e' : ℤ) → (x n).watch ≡ Some e' → Extreme n e') → Extreme (suc n) e
       go false p f r w z k rest = stays_extreme n e (rest e (z ∙ k)) (λ u _. subst T p u) (λ u. absurd (subst T p u))
       go true p true r w z k rest = absurd (true≢false (sym (ap stands k)))
-      go true p false r Off z k rest = begun (ltb (number_of (d n) 70) (run_next true (run n))) k
+      go true p false r None z k rest = begun (ltb (number_of (d n) 70) (run_next true (run n))) k
         where
-          begun : (t : Bool) → cond t (On (position n)) Off ≡ On e → Extreme (suc n) e
+          begun : (t : Bool) → cond t (Some (position n)) None ≡ Some e → Extreme (suc n) e
           begun true k =
               let is : position n ≡ e = cc in
               subst (Extreme (suc n)) is
               (new_extreme n (subst T (sym p) tt) standing
-              (λ i l u t h. absurd (subst (λ (w : Watch). T (stands w)) z (kept_on i n l t (λ j a b. h j a (omega (arith, b)))))))
+              (λ i l u t h. absurd (subst (λ (w : Option ℤ). T (stands w)) z (kept_on i n l t (λ j a b. h j a (omega (arith, b)))))))
           begun false k = absurd (true≢false (sym (ap stands k)))
-      go true p false r (On before) z k rest = moved (lt_z (pos 0) (ahead sign (position n) before)) refl (rest before z)
+      go true p false r (Some before) z k rest = moved (lt_z (pos 0) (ahead sign (position n) before)) refl (rest before z)
         where
           is : furthest sign before (position n) ≡ e
           is = cc
@@ -229,9 +227,9 @@ module _ (usable free : ℕ → Bool) (position : ℕ → ℤ) (d : ℕ → List
   pub beyond_since : (n : ℕ) → T (beyond_by (d n) sign (position n) (x (suc n)).watch) → Beyond usable free position delay sign (number_of (d n) 69) n
   beyond_since n = go (x (suc n)).watch refl
     where
-      go : (w : Watch) → (x (suc n)).watch ≡ w → T (beyond_by (d n) sign (position n) w) → Beyond usable free position delay sign (number_of (d n) 69) n
-      go Off q t = absurd t
-      go (On e) q t =
+      go : (w : Option ℤ) → (x (suc n)).watch ≡ w → T (beyond_by (d n) sign (position n) w) → Beyond usable free position delay sign (number_of (d n) 69) n
+      go None q t = absurd t
+      go (Some e) q t =
           let y = extreme_at (suc n) e q in
           record {
             at = y.at;
@@ -248,9 +246,9 @@ module _ (usable free : ℕ → Bool) (position : ℕ → ℤ) (d : ℕ → List
       let not_ended : NotEnded b.at (suc n) = λ i p l. b.never_ended i p (omega (arith, l)) in
       go (x (suc n)).watch refl stood not_ended (kept_on b.at (suc n) (omega (arith, b.not_later)) stood not_ended)
     where
-      go : (w : Watch) → (x (suc n)).watch ≡ w → T (on (suc b.at)) → NotEnded b.at (suc n) → T (on (suc n)) → T (beyond_by (d n) sign (position n) w)
-      go Off q stood not_ended t = absurd (subst (λ (w : Watch). T (stands w)) q t)
-      go (On e) q stood not_ended t =
+      go : (w : Option ℤ) → (x (suc n)).watch ≡ w → T (on (suc b.at)) → NotEnded b.at (suc n) → T (on (suc n)) → T (beyond_by (d n) sign (position n) w)
+      go None q stood not_ended t = absurd (subst (λ (w : Option ℤ). T (stands w)) q t)
+      go (Some e) q stood not_ended t =
           let y = extreme_at (suc n) e q in
           let not-ahead = y.highest b.at (omega (arith, b.not_later)) b.used stood not_ended in
           subst (λ (z : ℤ). T (lt_z (pos (number_of (d n) 69)) z)) (through sign e (position b.at) (position n))

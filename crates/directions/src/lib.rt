@@ -36,36 +36,34 @@ impl Directions {
     }
 
     // Both directions after a usable cycle with the function on.
+    #[tactic(auto, unfolding(crate::specs::Directions::directions_next))]
     pub fn next(self, values: &Values, reading: Reading) -> Directions
         ensures { result ≡ directions_next values.now reading self }
     {
-        let positive = self.positive;
-        let negative = self.negative;
         let positive_free = inputs::positive_only_off(reading.inputs);
         let negative_free = inputs::negative_only_off(reading.inputs);
         Directions {
-            positive: positive.next(values, Sign::Positive, positive_free, reading),
-            negative: negative.next(values, Sign::Negative, negative_free, reading),
+            positive: self
+                .positive
+                .next(values, Sign::Positive, positive_free, reading),
+            negative: self
+                .negative
+                .next(values, Sign::Negative, negative_free, reading),
         }
     }
 
     // Cause 14, by the watches as this cycle leaves them.
+    #[tactic(auto, unfolding(crate::specs::Directions::overstepped))]
     pub fn overstepped(self, values: &Values, reading: Reading) -> bool
         ensures { result ≡ overstepped values.now reading.position self }
     {
-        let positive = self.positive;
-        let negative = self.negative;
-        let positive_watch = positive.watch;
-        let negative_watch = negative.watch;
-        if positive_watch.beyond(values, Sign::Positive, reading) {
-            true
-        } else {
-            negative_watch.beyond(values, Sign::Negative, reading)
-        }
+        self.positive.beyond(values, Sign::Positive, reading)
+            || self.negative.beyond(values, Sign::Negative, reading)
     }
 
     // Both directions after a usable cycle, and cause 14. With the function off they are left as they are: then none has a run or
     // a watch, since none had one to begin with.
+    #[tactic(auto, unfolding(crate::specs::Directions::watched_of))]
     pub fn watched(self, values: &Values, reading: Reading) -> Watched
         ensures { result ≡ watched_of values.now reading self }
     {
@@ -95,5 +93,5 @@ pub fn on(values: &Values) -> bool
 pub fn rank(values: &Values) -> Rank
     ensures { result ≡ direction_rank values.now }
 {
-    Rank::from_number(machine_data::number(values, numbers::DIRECTION_STOP))
+    Rank::from(machine_data::number(values, numbers::DIRECTION_STOP))
 }

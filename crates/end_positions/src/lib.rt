@@ -14,30 +14,26 @@ fn beyond(values: &Values, reading: Reading, k: usize) -> bool
     requires { k < data_count }
     ensures { result ≡ beyond values.now reading.position k }
 {
-    if reading.position < machine_data::datum(values, k) {
-        return true;
-    }
-    machine_data::datum(values, k + 1) < reading.position
+    reading.position < machine_data::datum(values, k)
+        || machine_data::datum(values, k + 1) < reading.position
 }
 
 // Cause 4.
+#[tactic(auto, unfolding(crate::specs::EndPositions::outside))]
 pub fn outside(values: &Values, reading: Reading) -> bool
     ensures { result ≡ outside values.now reading }
 {
-    if machine_data::function(values, functions::SE) {
-        if inputs::se2_chosen(reading.inputs) {
-            beyond(values, reading, numbers::SE2_MINUS)
-        } else {
-            beyond(values, reading, numbers::SE1_MINUS)
-        }
+    let minus = if inputs::se2_chosen(reading.inputs) {
+        numbers::SE2_MINUS
     } else {
-        false
-    }
+        numbers::SE1_MINUS
+    };
+    machine_data::function(values, functions::SE) && beyond(values, reading, minus)
 }
 
 // The rank of cause 4.
 pub fn se_rank(values: &Values) -> Rank
     ensures { result ≡ se_rank values.now }
 {
-    Rank::from_number(machine_data::number(values, numbers::SE_STOP))
+    Rank::from(machine_data::number(values, numbers::SE_STOP))
 }

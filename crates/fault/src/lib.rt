@@ -1,13 +1,12 @@
 // F with its time to B, which the crosswise comparison sets. Cause 13, which it brings, stands in active.
 #![tactic(auto)]
 
-ghost use Rattle.std.specs.Prelude.{◌≡◌, cond, ◌-◌};
-ghost use Rattle.machine_data.specs.Data.{number_of};
+ghost use Rattle.std.specs.Prelude.{◌≡◌};
 ghost use Rattle.fault.specs.Fault.{fault_next, expired, cleared_fault};
 
 use machine_data::{Values, numbers};
 
-// F, and the cycles left of its time.
+// F, and the cycles left of its time. A flag and a count, not an Option of the count: C's words may hold cycles left with F off.
 #[derive(Clone, Copy)]
 pub struct Fault {
     pub on: bool,
@@ -15,33 +14,20 @@ pub struct Fault {
 }
 
 impl Fault {
-    // The cycles left: datum 34 where F is new, else one less.
-    fn count(self, values: &Values, new: bool) -> u32
-        ensures { result ≡ cond new (number_of values.now 34) (self.left - 1) }
-    {
-        let left = self.left;
-        if new {
-            machine_data::cycles(values, numbers::TIME_F)
-        } else if left == 0 {
-            0
-        } else {
-            left - 1
-        }
-    }
-
-    // F after causes 10 to 12 of a usable cycle.
+    // F after causes 10 to 12 of a usable cycle: new, its count is datum 34, else one less.
+    #[tactic(auto, unfolding(crate::specs::Fault::fault_next))]
     pub fn next(self, values: &Values, differs: bool) -> Fault
         ensures { result ≡ fault_next values.now differs self }
     {
         if self.on {
             Fault {
                 on: true,
-                left: self.count(values, false),
+                left: self.left.saturating_sub(1),
             }
         } else if differs {
             Fault {
                 on: true,
-                left: self.count(values, true),
+                left: machine_data::cycles(values, numbers::TIME_F),
             }
         } else {
             Fault { on: false, left: 0 }
@@ -60,6 +46,7 @@ impl Fault {
     }
 
     // F is on, and its time is over.
+    #[tactic(auto, unfolding(crate::specs::Fault::expired))]
     pub fn expired(self) -> bool
         ensures { result ≡ expired self }
     {

@@ -64,16 +64,16 @@ pub fn state_from(words: &Image) -> State
             directions: Directions {
                 positive: Direction {
                     run: words[19],
-                    watch: image_cases::watch_from(words[20], words[21]),
+                    watch: image_cases::position_from(words[20], words[21]),
                 },
                 negative: Direction {
                     run: words[22],
-                    watch: image_cases::watch_from(words[23], words[24]),
+                    watch: image_cases::position_from(words[23], words[24]),
                 },
             },
         },
         stop: image_cases::stop_from(words[13], words[14], words[15]),
-        previous: image_cases::previous_from(words[2], words[3]),
+        previous: image_cases::position_from(words[2], words[3]),
     }
 }
 

@@ -2,28 +2,28 @@
 use mathlib.Core.Path.{◌≡◌, refl, ap}
 use Prim.Native.Nat.{ℕ, ◌%◌, ◌<◌}
 use native.Mathlib.Omega.{arith}
-use Rattle.direction.specs.declared.Watch.{Watch}
-use Rattle.direction.specs.declared.Watch.TheVariants.{Off, On}
-use Rattle.distance.specs.declared.Previous.{Previous}
-use Rattle.distance.specs.declared.Previous.TheVariants.{Absent, At}
+use lib.IntN.{ℤ}
+use Rattle.std.specs.Prelude.{Option, None, Some}
 use Rattle.selection.specs.declared.Selection.{Selection}
 use Rattle.selection.specs.declared.Selection.TheVariants.{Nothing, Sg, Sbh}
 use Rattle.rank.proofs.Laws.{number-rank_from}
 use Rattle.stop.specs.declared.Stop.{Stop}
 use Rattle.stop.specs.declared.Stop.TheVariants.{Free, Braking, Held, Cancelled}
 use Rattle.crossing.proofs.Back.{signed_back}
-use Rattle.image_cases.specs.Cases.{previous_from, previous_words, PreviousFits, watch_from, watch_words, WatchFits, selection_from, selection_words, SelectionFits, stop_from, stop_words, StopFits}
+use Rattle.image_cases.specs.Cases.{position_from, position_words, PositionFits, previous_from, previous_words, PreviousFits, watch_from, watch_words, WatchFits, selection_from, selection_words, SelectionFits, stop_from, stop_words, StopFits}
 
 pub byte_back : (n : ℕ) → n < 256 → n % 256 ≡ n
 byte_back n h = omega arith
 
-pub previous_back : (p : Previous) → PreviousFits p → previous_from (previous_words p).kind (previous_words p).first ≡ p
-previous_back Absent h = refl
-previous_back (At position) h = ap At (signed_back position h)
+pub position_back : (p : Option ℤ) → PositionFits p → position_from (position_words p).kind (position_words p).first ≡ p
+position_back None h = refl
+position_back (Some position) h = ap Some (signed_back position h)
 
-pub watch_back : (w : Watch) → WatchFits w → watch_from (watch_words w).kind (watch_words w).first ≡ w
-watch_back Off h = refl
-watch_back (On extreme) h = ap On (signed_back extreme h)
+pub previous_back : (p : Option ℤ) → PreviousFits p → previous_from (previous_words p).kind (previous_words p).first ≡ p
+previous_back p h = position_back p h
+
+pub watch_back : (w : Option ℤ) → WatchFits w → watch_from (watch_words w).kind (watch_words w).first ≡ w
+watch_back w h = position_back w h
 
 pub selection_back : (s : Selection) → SelectionFits s → selection_from (selection_words s).kind (selection_words s).first (selection_words s).second ≡ s
 selection_back Nothing h = refl

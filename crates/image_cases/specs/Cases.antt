@@ -1,9 +1,6 @@
 -- The sums of a channel's state as words of 32 bits, and words read back: the number of a value's case, and what it holds.
-use Rattle.std.specs.Prelude.{ℕ, ◌%◌, ◌<◌, cond, eqb}
+use Rattle.std.specs.Prelude.{ℕ, ℤ, ◌%◌, ◌<◌, cond, eqb, Option, None, Some}
 use Rattle.crossing.specs.Words.{signed_of, unsigned_of, Signed}
-use Rattle.direction.specs.declared.Watch as D
-use Rattle.distance.specs.declared.Previous.{Previous}
-use Rattle.distance.specs.declared.Previous.TheVariants.{Absent, At}
 use Rattle.selection.specs.declared.Selection.{Selection}
 use Rattle.selection.specs.declared.Selection.TheVariants.{Nothing, Sg, Sbh}
 use Rattle.rank.specs.Rank.{rank_number, rank_from}
@@ -11,31 +8,40 @@ use Rattle.stop.specs.declared.Stop.{Stop}
 use Rattle.stop.specs.declared.Stop.TheVariants.{Free, Braking, Held, Cancelled}
 use Rattle.image_cases.specs.declared.Case.{Case}
 
+-- ---- a position, or none
+
+abbrev pub position_from : ℕ → ℕ → Option ℤ
+position_from kind position = cond (eqb kind 0) None (Some (signed_of position))
+
+abbrev pub position_words : Option ℤ → Case
+position_words None = record { kind = 0; first = 0; second = 0 }
+position_words (Some position) = record { kind = 1; first = unsigned_of position; second = 0 }
+
+abbrev pub PositionFits : Option ℤ → Type 0
+PositionFits None = Unit {0}
+PositionFits (Some position) = Signed position
+
 -- ---- the previous position
 
-abbrev pub previous_from : ℕ → ℕ → Previous
-previous_from kind position = cond (eqb kind 0) Absent (At (signed_of position))
+abbrev pub previous_from : ℕ → ℕ → Option ℤ
+previous_from kind position = position_from kind position
 
-abbrev pub previous_words : Previous → Case
-previous_words Absent = record { kind = 0; first = 0; second = 0 }
-previous_words (At position) = record { kind = 1; first = unsigned_of position; second = 0 }
+abbrev pub previous_words : Option ℤ → Case
+previous_words previous = position_words previous
 
-abbrev pub PreviousFits : Previous → Type 0
-PreviousFits Absent = Unit {0}
-PreviousFits (At position) = Signed position
+abbrev pub PreviousFits : Option ℤ → Type 0
+PreviousFits previous = PositionFits previous
 
 -- ---- the watch of a direction: its extreme
 
-abbrev pub watch_from : ℕ → ℕ → D.Watch
-watch_from kind extreme = cond (eqb kind 0) D.TheVariants.Off (D.TheVariants.On (signed_of extreme))
+abbrev pub watch_from : ℕ → ℕ → Option ℤ
+watch_from kind extreme = position_from kind extreme
 
-abbrev pub watch_words : D.Watch → Case
-watch_words D.TheVariants.Off = record { kind = 0; first = 0; second = 0 }
-watch_words (D.TheVariants.On extreme) = record { kind = 1; first = unsigned_of extreme; second = 0 }
+abbrev pub watch_words : Option ℤ → Case
+watch_words watch = position_words watch
 
-abbrev pub WatchFits : D.Watch → Type 0
-WatchFits D.TheVariants.Off = Unit {0}
-WatchFits (D.TheVariants.On extreme) = Signed extreme
+abbrev pub WatchFits : Option ℤ → Type 0
+WatchFits watch = PositionFits watch
 
 -- ---- a selection: an SG's number less one and its override's number are bytes
 

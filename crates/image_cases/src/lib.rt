@@ -3,15 +3,13 @@
 #![tactic(auto)]
 
 ghost use Rattle.std.specs.Prelude.{◌≡◌};
-ghost use Rattle.image_cases.specs.Cases.{previous_from, previous_words, PreviousFits, watch_from, watch_words, WatchFits, selection_from, selection_words, SelectionFits, stop_from, stop_words, StopFits};
+ghost use Rattle.image_cases.specs.Cases.{position_from, position_words, PositionFits, selection_from, selection_words, SelectionFits, stop_from, stop_words, StopFits};
 
-use direction::Watch;
-use distance::Previous;
 use rank::Rank;
 use selection::Selection;
 use stop::Stop;
 
-// A value of a sum: the number of its case, and what it holds.
+// A value of a sum: the number of its case, and what it holds. A number and no enum: C keeps these words.
 #[derive(Clone, Copy)]
 pub struct Case {
     pub kind: u32,
@@ -19,59 +17,30 @@ pub struct Case {
     pub second: u32,
 }
 
-// The previous position that words stand for.
-pub fn previous_from(kind: u32, position: u32) -> Previous
-    ensures { result ≡ previous_from kind position }
+// The position that words stand for, or none: the previous one, and the extreme of a direction's watch.
+pub fn position_from(kind: u32, position: u32) -> Option<i32>
+    ensures { result ≡ position_from kind position }
 {
     match kind {
-        0 => Previous::Absent,
-        _ => Previous::At(crossing::signed(position)),
+        0 => None,
+        _ => Some(crossing::signed(position)),
     }
 }
 
-// The words of a previous position.
-pub fn previous_words(previous: Previous) -> Case
-    ensures value { result ≡ previous_words previous }
-    ensures previous_fits { PreviousFits previous }
+// The words of such a position.
+pub fn position_words(position: Option<i32>) -> Case
+    ensures value { result ≡ position_words position }
+    ensures position_fits { PositionFits position }
 {
-    match previous {
-        Previous::Absent => Case {
+    match position {
+        None => Case {
             kind: 0,
             first: 0,
             second: 0,
         },
-        Previous::At(position) => Case {
+        Some(at) => Case {
             kind: 1,
-            first: crossing::unsigned(position),
-            second: 0,
-        },
-    }
-}
-
-// The watch that words stand for.
-pub fn watch_from(kind: u32, extreme: u32) -> Watch
-    ensures { result ≡ watch_from kind extreme }
-{
-    match kind {
-        0 => Watch::Off,
-        _ => Watch::On(crossing::signed(extreme)),
-    }
-}
-
-// The words of a watch.
-pub fn watch_words(watch: Watch) -> Case
-    ensures value { result ≡ watch_words watch }
-    ensures watch_fits { WatchFits watch }
-{
-    match watch {
-        Watch::Off => Case {
-            kind: 0,
-            first: 0,
-            second: 0,
-        },
-        Watch::On(extreme) => Case {
-            kind: 1,
-            first: crossing::unsigned(extreme),
+            first: crossing::unsigned(at),
             second: 0,
         },
     }
@@ -101,8 +70,8 @@ pub fn selection_words(selection: Selection) -> Case
         },
         Selection::Sg(number, over) => Case {
             kind: 1,
-            first: number as u32,
-            second: over as u32,
+            first: u32::from(number),
+            second: u32::from(over),
         },
         Selection::Sbh => Case {
             kind: 2,
@@ -118,8 +87,8 @@ pub fn stop_from(kind: u32, rank: u32, rest: u32) -> Stop
 {
     match kind {
         0 => Stop::Free,
-        1 => Stop::Braking(Rank::from_number(rank as u64), rest),
-        2 => Stop::Held(Rank::from_number(rank as u64), crossing::signed(rest)),
+        1 => Stop::Braking(Rank::from(u64::from(rank)), rest),
+        2 => Stop::Held(Rank::from(u64::from(rank)), crossing::signed(rest)),
         _ => Stop::Cancelled,
     }
 }
@@ -137,12 +106,12 @@ pub fn stop_words(stop: Stop) -> Case
         },
         Stop::Braking(rank, left) => Case {
             kind: 1,
-            first: rank.number() as u32,
+            first: u32::from(u8::from(rank)),
             second: left,
         },
         Stop::Held(rank, reference) => Case {
             kind: 2,
-            first: rank.number() as u32,
+            first: u32::from(u8::from(rank)),
             second: crossing::unsigned(reference),
         },
         Stop::Cancelled => Case {

@@ -22,6 +22,7 @@ pub enum External {
     E,
 }
 
+// Each input by a name of its own: an enum of them would have the same names, and a match beside it.
 pub fn sbh_sg_off(w: u32) -> bool
     ensures { result ≡ sbh_sg_off w }
 {
@@ -35,6 +36,7 @@ pub fn sbh_off(w: u32) -> bool
 }
 
 // The SG's number less one.
+#[tactic(auto, unfolding(bits::specs::Bits::field_of))]
 pub fn sg_number(w: u32) -> u8
     ensures { result ≡ sg_number w }
 {
@@ -42,6 +44,7 @@ pub fn sg_number(w: u32) -> u8
 }
 
 // The gear, from 0.
+#[tactic(auto, unfolding(bits::specs::Bits::field_of))]
 pub fn gear_number(w: u32) -> u8
     ensures { result ≡ gear_number w }
 {
@@ -86,6 +89,7 @@ pub fn external_off(w: u32, stop: External) -> bool
     }
 }
 
+#[tactic(auto, unfolding(bits::specs::Bits::field_of))]
 pub fn override_number(w: u32) -> u8
     ensures { result ≡ override_number w }
 {

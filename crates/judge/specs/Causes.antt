@@ -1,7 +1,6 @@
 -- Steps 2 to 4 of a cycle: what moved, what is effective, and the table of causes. Document 01, "One cycle of a channel", W2 and W6; and n<nx, W3.
-use Rattle.std.specs.Prelude.{ℕ, Bool, cond, ◌||◌, List, [], ◌∷◌, ℤ}
+use Rattle.std.specs.Prelude.{ℕ, Bool, cond, ◌||◌, List, [], ◌∷◌, ℤ, Option}
 use Rattle.machine_data.specs.declared.MachineData.{MachineData}
-use Rattle.distance.specs.declared.Previous.{Previous}
 use Rattle.distance.specs.Step.{moved_from}
 use Rattle.inputs.specs.declared.Reading.{Reading}
 use Rattle.inputs.specs.declared.External as X
@@ -32,7 +31,7 @@ use Rattle.judge.specs.declared.Differences.{Differences}
 use Rattle.judge.specs.declared.Findings.{Findings}
 
 -- step 2: |d|; W1: and the ratio that this cycle's input bits pick
-abbrev pub step_of : List ℤ → Previous → Reading → Step
+abbrev pub step_of : List ℤ → Option ℤ → Reading → Step
 step_of d previous r = record { moved = moved_from previous r.position; ratio = ratio_in d r.inputs }
 
 abbrev pub step_in : MachineData → State → Given → Step

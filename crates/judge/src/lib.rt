@@ -2,15 +2,14 @@
 #![tactic(auto)]
 
 ghost use Rattle.std.specs.Prelude.{◌≡◌};
-ghost use Rattle.machine_data.specs.Data.{lent};
+ghost use Rattle.machine_data.specs.Data.{list_of};
 ghost use Rattle.judge.specs.Causes.{step_of, any_differs, table, begun_of, findings_by, findings_of};
 
 use causes::{Cause, Rows};
 use directions::{Directions, Watched};
-use distance::Previous;
 use fault::Fault;
 use inputs::{External, Reading};
-use machine_data::Values;
+use machine_data::{Lent, Values};
 use nx_signal::Signal;
 use rank::Rank;
 use selection::Choice;
@@ -52,22 +51,16 @@ impl Differences {
     fn any(self) -> bool
         ensures { result ≡ any_differs self }
     {
-        if self.position {
-            return true;
-        }
-        if self.inputs {
-            return true;
-        }
-        self.datum
+        self.position || self.inputs || self.datum
     }
 }
 
 // Step 2: |d|, with the ratio that this cycle's inputs pick.
-fn step_of(values: &Values, previous: Previous, reading: Reading) -> Step
+fn step_of(values: &Values, previous: Option<i32>, reading: Reading) -> Step
     ensures { result ≡ step_of values.now previous reading }
 {
     Step {
-        moved: previous.moved_to(reading.position),
+        moved: distance::moved_to(previous, reading.position),
         ratio: inputs::ratio_in(values, reading.inputs),
     }
 }
@@ -160,77 +153,56 @@ pub fn begin(values: &Values, state: State, given: Given) -> Begun
     ensures { result ≡ begun_of values.now state given }
 {
     let reading = given.reading;
-    let report = given.report;
-    let previous = state.previous;
     let kept = state.kept;
-    let before = kept.choice;
-    let signal = kept.nx;
-    let step = step_of(values, previous, reading);
-    let nx = signal.next(values, step);
-    let choice = before.next(values, selection::selected(values, reading.inputs), reading);
-    let differing = comparison::run(kept.differing, reading, report);
+    let step = step_of(values, state.previous, reading);
+    let selected = selection::selected(values, reading.inputs);
     Begun {
         step,
-        nx,
-        choice,
-        differing,
+        nx: kept.nx.next(values, step),
+        choice: kept.choice.next(values, selected, reading),
+        differing: comparison::run(kept.differing, reading, given.report),
     }
 }
 
 // Step 4, by what was begun and by the directions' watches.
-pub fn finish(
-    values: &Values,
-    count: usize,
-    state: State,
-    given: Given,
-    begun: Begun,
-    watched: Watched,
-) -> Findings
-    ensures { result ≡ findings_by (lent values.now count) state given begun watched }
+pub fn finish(list: Lent, state: State, given: Given, begun: Begun, watched: Watched) -> Findings
+    ensures { result ≡ findings_by (list_of list.entry) state given begun watched }
 {
+    let values = list.values;
     let reading = given.reading;
     let report = given.report;
-    let kept = state.kept;
-    let fault = kept.fault;
-    let stop = state.stop;
-    let step = begun.step;
-    let nx = begun.nx;
     let choice = begun.choice;
-    let directions = watched.directions;
     let differs = Differences {
         position: comparison::position_differs(values, reading, report),
         inputs: comparison::inputs_differ(values, begun.differing),
-        datum: report::datum_differs(values, count, state.k, report),
+        datum: report::datum_differs(list, state.k, report),
     };
-    let after = fault.next(values, differs.any());
-    let effective = choice.effective;
+    let fault = state.kept.fault.next(values, differs.any());
     let rows = rows(
         values,
-        stop,
+        state.stop,
         reading,
         choice,
-        step,
+        begun.step,
         differs,
-        active::fault_stops(values, effective, after),
+        active::fault_stops(values, choice.effective, fault),
         watched.overstepped,
     );
     Findings {
-        step,
-        nx,
+        step: begun.step,
+        nx: begun.nx,
         choice,
-        directions,
+        directions: watched.directions,
         differing: begun.differing,
-        fault: after,
+        fault,
         rows,
     }
 }
 
-pub fn judge(values: &Values, count: usize, state: State, given: Given) -> Findings
-    ensures { result ≡ findings_of (lent values.now count) state given }
+pub fn judge(list: Lent, state: State, given: Given) -> Findings
+    ensures { result ≡ findings_of (list_of list.entry) state given }
 {
-    let begun = begin(values, state, given);
-    let kept = state.kept;
-    let directions = kept.directions;
-    let watched = directions.watched(values, given.reading);
-    finish(values, count, state, given, begun, watched)
+    let begun = begin(list.values, state, given);
+    let watched = state.kept.directions.watched(list.values, given.reading);
+    finish(list, state, given, begun, watched)
 }

@@ -4,54 +4,51 @@
 ghost use Rattle.std.specs.Prelude.{◌≡◌};
 ghost use Rattle.kit.specs.Kit.{read_kit};
 
-use list::ListAnswer;
 use machine_data::MachineData;
-use refusal::{Part, Refusal};
+use refusal::{KitRefusal, Part};
 
-#[derive(Clone, Copy)]
-pub enum KitAnswer {
-    // where the log begins
-    Accepted(usize),
-    // places are counted from the first word of the list refused
-    Refused(Refusal, Part),
-}
-
+// Both lists stand beside the answer: where B is refused, A has its data.
 #[derive(Clone, Copy)]
 pub struct KitRead {
-    pub answer: KitAnswer,
+    // where the log begins, or the first fault; its place is counted from the first word of the list refused
+    pub answer: Result<usize, KitRefusal>,
     pub a: MachineData,
     pub b: MachineData,
 }
 
 // Both lists; where A is refused B is not looked at, and has no data either.
+#[tactic(auto, using(crate::proofs::Lists::first_used, crate::proofs::Lists::both_used))]
 pub fn read_kit(words: &[u32]) -> KitRead
     ensures { result ≡ read_kit words.now }
 {
     let first = list::read_list(words);
-    let answer = first.answer;
-    let a = first.list;
-    match answer {
-        ListAnswer::Accepted(n) => {
+    match first.answer {
+        Ok(n) => {
             let second = list::read_list(&words[n..]);
-            let other = second.answer;
             let b = second.list;
-            match other {
-                ListAnswer::Accepted(m) => KitRead {
-                    answer: KitAnswer::Accepted(n + m),
-                    a,
+            match second.answer {
+                Ok(m) => KitRead {
+                    answer: Ok(n + m),
+                    a: first.list,
                     b,
                 },
-                ListAnswer::Refused(why) => KitRead {
-                    answer: KitAnswer::Refused(why, Part::ListB),
-                    a,
+                Err(why) => KitRead {
+                    answer: Err(KitRefusal {
+                        why,
+                        part: Part::ListB,
+                    }),
+                    a: first.list,
                     b,
                 },
             }
         }
-        ListAnswer::Refused(why) => KitRead {
-            answer: KitAnswer::Refused(why, Part::ListA),
-            a,
-            b: a,
+        Err(why) => KitRead {
+            answer: Err(KitRefusal {
+                why,
+                part: Part::ListA,
+            }),
+            a: first.list,
+            b: first.list,
         },
     }
 }

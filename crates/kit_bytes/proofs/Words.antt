@@ -1,91 +1,55 @@
--- Words read four bytes at a time. Assumes nothing.
-use mathlib.Core.Path.{◌≡◌, refl, sym, ap, ◌∙◌}
-use mathlib.Core.List.{List, [], ◌∷◌, ◌++◌, append-nil}
-use Prim.Native.Nat.{ℕ, zero, suc, ◌+◌, ◌*◌, ◌≤◌, ◌<◌}
-use native.Mathlib.Omega.{arith}
-use lib.ListN.{length, get_or, take, drop, set, length-append, length-set, length-drop, drop_of_length-le, take-append-drop}
-use lib.Seq.{drop-cons, drop-drop, drop-set-lt, take-suc-set, take_all, take_at, append_snoc, length-take-le}
-use Rattle.kit_bytes.specs.KitBytes.{big_endian, words_of, overlaid}
+-- A kit's bytes in arrays of four, and their words. Assumes nothing.
+use Rattle.std.proofs.Common.{◌≡◌, refl, sym, ap, ◌∙◌, List, [], ◌∷◌, ◌++◌, ℕ, zero, suc, ◌+◌, ◌*◌, ◌≤◌, ◌<◌, min, length, get_or, take, drop, set, inl, inr, arith, zero-add, append-nil}
+use Rattle.std.proofs.Math.Nat.{min_comm}
+use Rattle.std.proofs.Math.ListN.{drop_of_length-le}
+use Rattle.std.proofs.Math.Seq.{paste}
+use Rattle.std.proofs.lemmas.Bool.{cases_lt}
+use Rattle.std.proofs.lemmas.List.{take_all, take_min}
+use Rattle.std.proofs.lemmas.List.Edits.{paste_more}
+use Rattle.std.specs.Int.{w32, from_be_bytes}
+use Rattle.std.specs.Simd.{first_chunks}
+use Rattle.kit_bytes.specs.KitBytes.{words_of, overlaid}
 
--- the list from a place on, its first four elements taken off
-four : (l : List ℕ) (j : ℕ) → j + 3 < length l → drop j l ≡ get_or l j 0 ∷ get_or l (j + 1) 0 ∷ get_or l (j + 2) 0 ∷ get_or l (j + 3) 0 ∷ drop (j + 4) l
-four l j h = first j (j + 1) (omega arith) (omega arith) _ (first (j + 1) (j + 2) (omega arith) (omega arith) _ (first (j + 2) (j + 3) (omega arith) (omega arith) _ (first (j + 3) (j + 4) (omega arith) (omega arith) _ refl)))
-  where
-    first : (i k : ℕ) → k ≡ suc i → i < length l → (r : List ℕ) → drop k l ≡ r → drop i l ≡ get_or l i 0 ∷ r
-    first i k e h r q = drop-cons l i 0 h ∙ ap (λ (m : ℕ). get_or l i 0 ∷ drop m l) (sym e) ∙ ap (λ (x : List ℕ). get_or l i 0 ∷ x) q
-
-words_more : (l : List ℕ) (j : ℕ) → j + 3 < length l → words_of (drop j l) ≡ big_endian (get_or l j 0) (get_or l (j + 1) 0) (get_or l (j + 2) 0) (get_or l (j + 3) 0) ∷ words_of (drop (j + 4) l)
+-- a word is the number of its array
+pub word_at : (l : List ℕ) (n i : ℕ) → 4 * n ≤ length l → i < n → get_or (words_of l) i 0 ≡ from_be_bytes w32 (get_or (first_chunks 4 n l) i [])
 unfolding words_of
-words_more l j h = ap words_of (four l j h)
+word_at l zero i long h = absurd (omega (arith, h))
+word_at [] (suc n) i long h = absurd (omega (arith, long))
+word_at (a ∷ []) (suc n) i long h = absurd (omega (arith, long))
+word_at (a ∷ b ∷ []) (suc n) i long h = absurd (omega (arith, long))
+word_at (a ∷ b ∷ c ∷ []) (suc n) i long h = absurd (omega (arith, long))
+word_at (a ∷ b ∷ c ∷ d ∷ l) (suc n) zero long h = refl
+word_at (a ∷ b ∷ c ∷ d ∷ l) (suc n) (suc i) long h = word_at l n i (omega (arith, long)) (omega (arith, h))
 
--- fewer than four bytes are no word
-words_none : (l : List ℕ) → length l < 4 → words_of l ≡ []
+-- fewer than four bytes at the end are no word
+pub words_many : (l : List ℕ) (n : ℕ) → 4 * n ≤ length l → length l < 4 * n + 4 → length (words_of l) ≡ n
 unfolding words_of
-words_none [] h = refl
-words_none (a ∷ []) h = refl
-words_none (a ∷ b ∷ []) h = refl
-words_none (a ∷ b ∷ c ∷ []) h = refl
-words_none (a ∷ b ∷ c ∷ d ∷ l) h = absurd (omega (arith, h))
-
--- i words are read
-pub record WordsRead (bytes out₀ out : List ℕ) (i : ℕ) : Type 0 where
-  pub inside : i ≤ length out₀
-  pub there : 4 * i ≤ length bytes
-  pub size : length out ≡ length out₀
-  pub in_all : take i out ++ words_of (drop (4 * i) bytes) ≡ words_of bytes
-  pub behind : drop i out ≡ drop i out₀
-
-pub nothing_read : (bytes out : List ℕ) → WordsRead bytes out out 0
-nothing_read bytes out = record { inside = omega arith; there = omega arith; size = refl; in_all = refl; behind = refl }
-
-module _ {bytes out₀ out : List ℕ} {i : ℕ} (d : WordsRead bytes out₀ out i) where
-  pub read_on : {v : ℕ} → i < length out → 4 * i + 3 < length bytes → v ≡ big_endian (get_or bytes (4 * i) 0) (get_or bytes (4 * i + 1) 0) (get_or bytes (4 * i + 2) 0) (get_or bytes (4 * i + 3) 0) →
-      WordsRead bytes out₀ (set out i v) (i + 1)
-  read_on {v} more room e =
-      let last : suc i ≡ i + 1 = omega arith in
-      let far : 4 * i + 4 ≡ 4 * (i + 1) = omega arith in
-      let rest : words_of (drop (4 * i) bytes) ≡ v ∷ words_of (drop (4 * (i + 1)) bytes) = words_more bytes (4 * i) room ∙ (λ k. sym e k ∷ words_of (drop (far k) bytes)) in
-      record {
-        inside = omega (arith, d.size);
-        there = omega arith;
-        size = length-set out i v ∙ d.size;
-        in_all = ap (λ (k : ℕ). take k (set out i v) ++ words_of (drop (4 * (i + 1)) bytes)) (sym last)
-            ∙ ap (λ (l : List ℕ). l ++ words_of (drop (4 * (i + 1)) bytes)) (take-suc-set out i v more)
-            ∙ append_snoc (take i out) v (words_of (drop (4 * (i + 1)) bytes))
-            ∙ ap (λ (r : List ℕ). take i out ++ r) (sym rest)
-            ∙ d.in_all;
-        behind = drop-set-lt (i + 1) out i v (omega arith) ∙ sym (drop-drop 1 i out) ∙ ap (drop 1) d.behind ∙ drop-drop 1 i out₀;
-      }
-
-  -- no room is left
-  pub all_room : length out ≤ i → out ≡ overlaid (words_of bytes) out₀
-  all_room h =
-      let full : i ≡ length out₀ = omega (arith, d.inside, d.size) in
-      let front : length (take i out) ≡ length out₀ = length-take-le i out (omega (arith, d.size)) ∙ full in
-      let long = ap length d.in_all in
-      let words : take (length out₀) (words_of bytes) ≡ out = ap (take (length out₀)) (sym d.in_all) ∙ take_at (take i out) _ (length out₀) front ∙ take_all i out h in
-      let none : drop (length (words_of bytes)) out₀ ≡ [] = drop_of_length-le out₀ {i = length (words_of bytes)} (omega (arith, front, simp length-append at long)) in
-      sym ((λ k. words k ++ none k) ∙ append-nil out)
-
-  -- no word is left
-  pub all_words : length bytes < 4 * i + 4 → out ≡ overlaid (words_of bytes) out₀
-  all_words h =
-      let none = words_none (drop (4 * i) bytes) (omega (arith, length-drop (4 * i) bytes)) in
-      let words : take i out ≡ words_of bytes = sym (append-nil (take i out)) ∙ ap (λ (r : List ℕ). take i out ++ r) (sym none) ∙ d.in_all in
-      let front : length (words_of bytes) ≡ i = ap length (sym words) ∙ length-take-le i out (omega (arith, d.inside, d.size)) in
-      sym (take-append-drop i out)
-      ∙ (λ k. words k ++ d.behind k)
-      ∙ (λ k. sym (take_all (length out₀) (words_of bytes) (omega (arith, front, d.inside))) k ++ drop (sym front k) out₀)
+words_many [] n least most = omega (arith, least)
+words_many (a ∷ []) n least most = omega (arith, least)
+words_many (a ∷ b ∷ []) n least most = omega (arith, least)
+words_many (a ∷ b ∷ c ∷ []) n least most = omega (arith, least)
+words_many (a ∷ b ∷ c ∷ d ∷ l) zero least most = absurd (omega (arith, most))
+words_many (a ∷ b ∷ c ∷ d ∷ l) (suc n) least most = ap suc (words_many l n (omega (arith, least)) (omega (arith, most)))
 
 -- whole words are as many as a quarter of the bytes
 pub words_length : (bytes : List ℕ) (n : ℕ) → length bytes ≡ 4 * n → length (words_of bytes) ≡ n
-unfolding words_of
-words_length [] n e = omega (arith, e)
-words_length (a ∷ []) n e = absurd (omega (arith, e))
-words_length (a ∷ b ∷ []) n e = absurd (omega (arith, e))
-words_length (a ∷ b ∷ c ∷ []) n e = absurd (omega (arith, e))
-words_length (a ∷ b ∷ c ∷ d ∷ rest) zero e = absurd (omega (arith, e))
-words_length (a ∷ b ∷ c ∷ d ∷ rest) (suc n) e = ap suc (words_length rest n (omega (arith, e)))
+words_length bytes n e = words_many bytes n (omega (arith, e)) (omega (arith, e))
+
+-- as many words are put as there are and have room
+pub words_put : (words out : List ℕ) (n : ℕ) → n ≡ min (length words) (length out) → paste out 0 words n ≡ overlaid words out
+words_put words out n e = (λ k. front k ++ rest k)
+  where
+    front : take n words ≡ take (length out) words
+    front = ap (λ (k : ℕ). take k words) (e ∙ min_comm (length words) (length out)) ∙ take_min (length out) words
+
+    rest : drop (0 + n) out ≡ drop (length words) out
+    rest = elim (cases_lt (length words) (length out)) [
+      | inl h ↦ ap (λ (k : ℕ). drop k out) (omega arith)
+      | inr h ↦ drop_of_length-le out (omega arith) ∙ sym (drop_of_length-le out h)
+    ]
+
+pub put_on : (words out : List ℕ) (i : ℕ) {now : List ℕ} {v : ℕ} → now ≡ paste out 0 words i → v ≡ get_or words i 0 → i < length words → i < length out → set now i v ≡ paste out 0 words (i + 1)
+put_on words out i so is more room = (λ k. set (so k) (sym (zero-add i) k) (is k)) ∙ paste_more out 0 words i 0 (omega arith) more
 
 -- an output of just their length is all theirs
 pub overlaid_all : (words out : List ℕ) → length words ≡ length out → overlaid words out ≡ words

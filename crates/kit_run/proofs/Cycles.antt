@@ -10,7 +10,9 @@ use lib.Dec.{ltb}
 use borrow.Author.Tests.{ltb-true}
 use Rattle.laws.proofs.Never.{never}
 use Rattle.seven.specs.declared.CycleRecord.{CycleRecord}
-use Rattle.records.specs.declared.Entry as E
+use Rattle.std.proofs.Common.{Result, Ok, Err}
+use Rattle.records.specs.declared.Entry.{Entry}
+use Rattle.records.specs.declared.Entry.TheVariants.{Record, Remark}
 use Rattle.records.specs.Records.{entry_at, LogRead, records, fault, before, on_entry, log_from, log_of}
 use Rattle.records.proofs.Scanning.{record_there}
 use Rattle.logs.specs.Run.{device_cycle, lines_of}
@@ -34,12 +36,12 @@ fills (suc n) s at rs e₀ h = go (ltb at (length s)) refl (entry_at s at) refl 
     after r (records k) there f y = let q : r ∷ k ≡ rs = cc in omega (arith, ap length q, f k refl there)
     after r (fault place) there f y = never (cc)
 
-    go : (t : Bool) → ltb at (length s) ≡ t → (x : E.Entry) → entry_at s at ≡ x → Fill s (at + 7) (log_from n s (at + 7)) → Fill s (at + 1) (log_from n s (at + 1)) →
+    go : (t : Bool) → ltb at (length s) ≡ t → (x : Result Entry ℕ) → entry_at s at ≡ x → Fill s (at + 7) (log_from n s (at + 7)) → Fill s (at + 1) (log_from n s (at + 1)) →
         cond t (on_entry x (λ r. before r (log_from n s (at + 7))) (log_from n s (at + 1))) (records []) ≡ records rs → at + 7 * length rs ≤ length s
     go false b x e f g y = empty y
-    go true b (E.TheVariants.Record r) e f g y = after r (log_from n s (at + 7)) (record_there s at r e) f y
-    go true b E.TheVariants.Remark e f g y = let inside = ltb-true at (length s) b in omega (arith, g rs y (omega (arith, inside)))
-    go true b (E.TheVariants.Bad place) e f g y = never (cc)
+    go true b (Ok (Record r)) e f g y = after r (log_from n s (at + 7)) (record_there s at r e) f y
+    go true b (Ok Remark) e f g y = let inside = ltb-true at (length s) b in omega (arith, g rs y (omega (arith, inside)))
+    go true b (Err place) e f g y = never (cc)
 
 pub seven_words : (s : List ℕ) (rs : List CycleRecord) → log_of s ≡ records rs → 7 * length rs ≤ length s
 seven_words s rs e = omega (arith, fills (length s) s 0 rs e (omega arith))

@@ -1,7 +1,8 @@
 // Causes 2, 3 and 5 to 9: whether each stands, and the ranks that data give.
 #![tactic(auto)]
 
-ghost use Rattle.std.specs.Prelude.{◌≡◌};
+ghost use Rattle.std.specs.Prelude.{◌≡◌, ltb, nat_abs, ◌-ℤ◌};
+ghost use Rattle.machine_data.specs.Data.{number_of};
 ghost use Rattle.limits.specs.Limits.{standstill_left, over_speed, sg_rank, external, hold_left};
 
 use inputs::{External, Reading};
@@ -11,19 +12,20 @@ use selection::{Choice, Selection};
 use speed::{Sg, Step};
 use stop::Stop;
 
+// Whether an axis at rest has left its reference: by more than the standstill tolerance.
+fn left(values: &Values, reading: Reading, reference: i32) -> bool
+    ensures { result ≡ ltb (number_of values.now 2) (nat_abs (reading.position -ℤ reference)) }
+{
+    machine_data::number(values, numbers::STANDSTILL_TOLERANCE)
+        < u64::from(distance::distance(reading.position, reference))
+}
+
 // Cause 2.
+#[tactic(auto, unfolding(crate::specs::Limits::standstill_left))]
 pub fn standstill_left(values: &Values, choice: Choice, reading: Reading) -> bool
     ensures { result ≡ standstill_left values.now choice reading.position }
 {
-    let s = choice.effective;
-    match s {
-        Selection::Nothing => false,
-        Selection::Sg(_, _) => false,
-        Selection::Sbh => {
-            machine_data::number(values, numbers::STANDSTILL_TOLERANCE)
-                < (distance::distance(reading.position, choice.reference) as u64)
-        }
-    }
+    choice.effective == Selection::Sbh && left(values, reading, choice.reference)
 }
 
 // Cause 3.
@@ -31,9 +33,8 @@ pub fn over_speed(values: &Values, effective: Selection, step: Step) -> bool
     ensures { result ≡ over_speed values.now effective step }
 {
     match effective {
-        Selection::Nothing => false,
         Selection::Sg(number, over) => speed::too_fast(values, step, Sg { number, over }),
-        Selection::Sbh => false,
+        Selection::Nothing | Selection::Sbh => false,
     }
 }
 
@@ -42,13 +43,13 @@ pub fn sg_rank(values: &Values, effective: Selection) -> Rank
     ensures { result ≡ sg_rank values.now effective }
 {
     match effective {
-        Selection::Nothing => Rank::None,
-        Selection::Sg(n, _) => Rank::from_number(machine_data::sg_stop(values, n)),
-        Selection::Sbh => Rank::None,
+        Selection::Sg(n, _) => Rank::from(machine_data::sg_stop(values, n)),
+        Selection::Nothing | Selection::Sbh => Rank::None,
     }
 }
 
 // Causes 5 to 8.
+#[tactic(auto, unfolding(crate::specs::Limits::external))]
 pub fn external(values: &Values, reading: Reading, stop: External) -> bool
     ensures { result ≡ external values.now reading.inputs stop }
 {
@@ -60,11 +61,5 @@ pub fn external(values: &Values, reading: Reading, stop: External) -> bool
 pub fn hold_left(values: &Values, stop: Stop, reading: Reading) -> bool
     ensures { result ≡ hold_left values.now stop reading.position }
 {
-    match stop {
-        Stop::Free => false,
-        Stop::Braking(_, _) => false,
-        Stop::Held(_, p) => machine_data::number(values, numbers::STANDSTILL_TOLERANCE)
-            < (distance::distance(reading.position, p) as u64),
-        Stop::Cancelled => false,
-    }
+    matches!(stop, Stop::Held(_, reference) if left(values, reading, reference))
 }

@@ -1,17 +1,18 @@
 -- Fields put one behind the other. Assumes nothing.
-use mathlib.Core.Path.{◌≡◌, refl, ap, ◌∙◌}
+use mathlib.Core.Path.{◌≡◌, ap, ◌∙◌}
 use mathlib.Core.List.{List, [], ◌∷◌, ◌++◌, append_assoc}
 use Prim.Native.Nat.{ℕ, ◌+◌, ◌≤◌}
 use native.Mathlib.Omega.{arith}
-use lib.ListN.{length, set, length-append, length-set}
+use lib.ListN.{length, set, length-append}
 use lib.Seq.{append_snoc}
 use Rattle.numerals.specs.Numerals.{digits, width}
 use Rattle.numerals.specs.Written.{splice, written}
 use Rattle.numerals.proofs.Laws.{length_digits}
 use Rattle.numerals.proofs.Splices.{store-splice, length-splice, written_room, splice_behind}
 use Rattle.lines.specs.declared.Line.{Line}
+use Rattle.lines.specs.declared.RefusalLine.{RefusalLine}
 use Rattle.lines.specs.Lines.{spaced, ended, cycle_line, refused_word, refusal_line}
-use Rattle.lines.proofs.Sizes.{line_room, refusal_room}
+use Rattle.lines.proofs.Sizes.{line_size, refusal_size}
 
 -- a text behind what stands there already, at a place that is its end
 pub behind : (at : ℕ) (t f l : List ℕ) (p : ℕ) {out out' : List ℕ} → out ≡ splice at t l → p ≡ at + length t → out' ≡ splice p f out → at + length (t ++ f) ≤ length l → out' ≡ splice at (t ++ f) l
@@ -52,36 +53,31 @@ spaced_fields f g h rest =
     ∙ append_snoc f 32 ((g ++ 32 ∷ []) ++ ((h ++ 32 ∷ []) ++ rest))
     ∙ ap (spaced f) (append_snoc g 32 ((h ++ 32 ∷ []) ++ rest) ∙ ap (spaced g) (append_snoc h 32 rest))
 
-pub two_stored : (l : List ℕ) (at x y : ℕ) → at + 2 ≤ length l → set (set l at x) (at + 1) y ≡ splice at (x ∷ y ∷ []) l
-two_stored l at x y h =
-    behind at (x ∷ []) (y ∷ []) l (at + 1) (store-splice l at x (omega arith)) refl
-    (store-splice (set l at x) (at + 1) y (omega (arith, length-set l at x))) (omega arith)
-
 digits_end : (base many n end : ℕ) → length (digits base many n ++ end ∷ []) ≡ many + 1
 digits_end base many n end = length-append (digits base many n) (end ∷ []) ∙ ap (λ (k : ℕ). k + 1) (length_digits base many n)
 
 -- the fields of a line, as they are put
 module _ (at : ℕ) (x : Line) (l : List ℕ) (room : at + length (cycle_line x) ≤ length l) {m w : ℕ} (wide : m ≡ width 10 x.cycle) (device-wide : w ≡ width 16 x.device) where
-  pub line_put : {one two three all : List ℕ} → one ≡ splice at (digits 10 m x.cycle ++ 32 ∷ []) l → two ≡ splice (at + m + 1) (digits 16 8 x.a ++ 32 ∷ []) one →
-      three ≡ splice (at + m + 1 + 9) (digits 16 8 x.b ++ 32 ∷ []) two → all ≡ splice (at + m + 1 + 18) (digits 16 w x.device ++ 10 ∷ []) three → all ≡ splice at (cycle_line x) l
-  line_put e f g h =
-      let c = digits_end 10 m x.cycle 32 in
-      let a = digits_end 16 8 x.a 32 in
-      let b = digits_end 16 8 x.b 32 in
-      let d = digits_end 16 w x.device 10 in
-      four_put at l (digits 10 m x.cycle ++ 32 ∷ []) (digits 16 8 x.a ++ 32 ∷ []) (digits 16 8 x.b ++ 32 ∷ []) (digits 16 w x.device ++ 10 ∷ []) (at + m + 1) (at + m + 1 + 9) (at + m + 1 + 18) e f g h
-      (omega (arith, c)) (omega (arith, a)) (omega (arith, b)) (omega (arith, d, line_room at x l room wide))
+  pub line_put : {one two three all : List ℕ} (a b d : ℕ) → one ≡ splice at (digits 10 m x.cycle ++ 32 ∷ []) l → a ≡ at + m + 1 → two ≡ splice a (digits 16 8 x.a ++ 32 ∷ []) one → b ≡ a + 8 + 1 →
+      three ≡ splice b (digits 16 8 x.b ++ 32 ∷ []) two → d ≡ b + 8 + 1 → all ≡ splice d (digits 16 w x.device ++ 10 ∷ []) three → all ≡ splice at (cycle_line x) l
+  line_put a b d e at_a f at_b g at_d h =
+      let first = digits_end 10 m x.cycle 32 in
+      let second = digits_end 16 8 x.a 32 in
+      let third = digits_end 16 8 x.b 32 in
+      let last = digits_end 16 w x.device 10 in
+      four_put at l (digits 10 m x.cycle ++ 32 ∷ []) (digits 16 8 x.a ++ 32 ∷ []) (digits 16 8 x.b ++ 32 ∷ []) (digits 16 w x.device ++ 10 ∷ []) a b d e f g h
+      (omega (arith, first)) (omega (arith, second)) (omega (arith, third)) (omega (arith, last, line_size x))
       ∙ ap (λ (t : List ℕ). splice at t l) (spaced_fields (digits 10 m x.cycle) (digits 16 8 x.a) (digits 16 8 x.b) (digits 16 w x.device ++ 10 ∷ [])
       ∙ (λ i. spaced (digits 10 (wide i) x.cycle) (spaced (digits 16 8 x.a) (spaced (digits 16 8 x.b) (ended (digits 16 (device-wide i) x.device))))))
 
 -- the same of a refusal
-module _ (number place letter : ℕ) (l : List ℕ) (room : 0 + length (refusal_line number place letter) ≤ length l) {m w : ℕ} (wide : m ≡ width 10 number) (place-wide : w ≡ width 10 place) where
-  pub refusal_put : {one two three all : List ℕ} → one ≡ splice 0 (refused_word ++ 32 ∷ []) l → two ≡ splice 8 (digits 10 m number ++ 32 ∷ []) one →
-      three ≡ splice (9 + m) (digits 10 w place ++ 32 ∷ []) two → all ≡ splice (10 + m + w) (ended (letter ∷ [])) three → all ≡ splice 0 (refusal_line number place letter) l
-  refusal_put e f g h =
-      let x = digits_end 10 m number 32 in
-      let y = digits_end 10 w place 32 in
-      four_put 0 l (refused_word ++ 32 ∷ []) (digits 10 m number ++ 32 ∷ []) (digits 10 w place ++ 32 ∷ []) (ended (letter ∷ [])) 8 (9 + m) (10 + m + w) e f g h
-      (omega arith) (omega (arith, x)) (omega (arith, y)) (omega (arith, refusal_room number place letter l room wide))
-      ∙ ap (λ (t : List ℕ). splice 0 t l) (spaced_fields refused_word (digits 10 m number) (digits 10 w place) (ended (letter ∷ []))
-      ∙ (λ i. spaced refused_word (spaced (digits 10 (wide i) number) (spaced (digits 10 (place-wide i) place) (ended (letter ∷ []))))))
+module _ (r : RefusalLine) (l : List ℕ) (room : length (refusal_line r) ≤ length l) {m w : ℕ} (wide : m ≡ width 10 r.number) (place-wide : w ≡ width 10 r.place) where
+  pub refusal_put : {one two three all : List ℕ} (p q : ℕ) → one ≡ splice 0 (refused_word ++ 32 ∷ []) l → two ≡ splice 8 (digits 10 m r.number ++ 32 ∷ []) one → p ≡ 8 + m + 1 →
+      three ≡ splice p (digits 10 w r.place ++ 32 ∷ []) two → q ≡ p + w + 1 → all ≡ splice q (ended (r.letter ∷ [])) three → all ≡ splice 0 (refusal_line r) l
+  refusal_put p q e f at_p g at_q h =
+      let x = digits_end 10 m r.number 32 in
+      let y = digits_end 10 w r.place 32 in
+      four_put 0 l (refused_word ++ 32 ∷ []) (digits 10 m r.number ++ 32 ∷ []) (digits 10 w r.place ++ 32 ∷ []) (ended (r.letter ∷ [])) 8 p q e f g h
+      (omega arith) (omega (arith, x)) (omega (arith, y)) (omega (arith, refusal_size r))
+      ∙ ap (λ (t : List ℕ). splice 0 t l) (spaced_fields refused_word (digits 10 m r.number) (digits 10 w r.place) (ended (r.letter ∷ []))
+      ∙ (λ i. spaced refused_word (spaced (digits 10 (wide i) r.number) (spaced (digits 10 (place-wide i) r.place) (ended (r.letter ∷ []))))))

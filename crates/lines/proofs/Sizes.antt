@@ -7,6 +7,7 @@ use lib.ListN.{length, length-append}
 use Rattle.numerals.specs.Numerals.{digits, width, numeral}
 use Rattle.numerals.proofs.Laws.{length_digits, width_most}
 use Rattle.lines.specs.declared.Line.{Line}
+use Rattle.lines.specs.declared.RefusalLine.{RefusalLine}
 use Rattle.lines.specs.Lines.{spaced, ended, cycle_line, refused_word, refusal_line}
 
 spaced_size : (f rest : List ℕ) → length (spaced f rest) ≡ length f + length rest + 1
@@ -31,17 +32,17 @@ line_size l =
       length_digits 16 (width 16 l.device) l.device,
     )
 
-pub refusal_size : (number place letter : ℕ) → length (refusal_line number place letter) ≡ width 10 number + width 10 place + 12
-refusal_size number place letter =
-    let last = ended (letter ∷ []) in
-    let second = spaced (numeral 10 place) last in
+pub refusal_size : (r : RefusalLine) → length (refusal_line r) ≡ width 10 r.number + width 10 r.place + 12
+refusal_size r =
+    let last = ended (r.letter ∷ []) in
+    let second = spaced (numeral 10 r.place) last in
     omega (
       arith,
-      spaced_size refused_word (spaced (numeral 10 number) second),
-      spaced_size (numeral 10 number) second,
-      spaced_size (numeral 10 place) last,
-      length_digits 10 (width 10 number) number,
-      length_digits 10 (width 10 place) place,
+      spaced_size refused_word (spaced (numeral 10 r.number) second),
+      spaced_size (numeral 10 r.number) second,
+      spaced_size (numeral 10 r.place) last,
+      length_digits 10 (width 10 r.number) r.number,
+      length_digits 10 (width 10 r.place) r.place,
     )
 
 -- numbers of the machine have so many digits at most
@@ -50,10 +51,3 @@ decimal_most n h = width_most 10 (omega arith) 19 n (omega arith)
 
 pub hex_most : (n : ℕ) → n < 4294967296 → width 16 n ≤ 8
 hex_most n h = width_most 16 (omega arith) 7 n (omega arith)
-
--- the room for a line or a refusal, by the widths of its numbers
-pub line_room : (at : ℕ) (l : Line) (out : List ℕ) → at + length (cycle_line l) ≤ length out → {m : ℕ} → m ≡ width 10 l.cycle → at + m + width 16 l.device + 20 ≤ length out
-line_room at l out h e = omega (arith, line_size l)
-
-pub refusal_room : (number place letter : ℕ) (l : List ℕ) → 0 + length (refusal_line number place letter) ≤ length l → {m : ℕ} → m ≡ width 10 number → m + width 10 place + 12 ≤ length l
-refusal_room number place letter l h e = omega (arith, refusal_size number place letter)

@@ -2,6 +2,7 @@
 use Rattle.std.specs.Prelude.{ℕ, List, [], ◌∷◌, ◌++◌}
 use Rattle.numerals.specs.Numerals.{digits, numeral}
 use Rattle.lines.specs.declared.Line.{Line}
+use Rattle.lines.specs.declared.RefusalLine.{RefusalLine}
 
 -- "Fields stand one space apart"
 abbrev pub spaced : List ℕ → List ℕ → List ℕ
@@ -24,9 +25,9 @@ abbrev pub refused_word : List ℕ
 refused_word = 114 ∷ 101 ∷ 102 ∷ 117 ∷ 115 ∷ 101 ∷ 100 ∷ []
 
 -- "number, place (both decimal) and A, B or L"
-abbrev pub refusal_fields : ℕ → ℕ → ℕ → List ℕ
-refusal_fields number place letter = spaced (numeral 10 number) (spaced (numeral 10 place) (ended (letter ∷ [])))
+abbrev pub refusal_fields : RefusalLine → List ℕ
+refusal_fields r = spaced (numeral 10 r.number) (spaced (numeral 10 r.place) (ended (r.letter ∷ [])))
 
 -- "A refusal prints only one line"
-abbrev pub refusal_line : ℕ → ℕ → ℕ → List ℕ
-refusal_line number place letter = spaced refused_word (refusal_fields number place letter)
+abbrev pub refusal_line : RefusalLine → List ℕ
+refusal_line r = spaced refused_word (refusal_fields r)

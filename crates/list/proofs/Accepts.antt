@@ -12,6 +12,7 @@ use lib.Seq.{take_at, length-take-le, drop-set-lt, get_or-append-add}
 use lib.IntN.{ℤ, pos}
 use lib.Dec.{T}
 use lib.Ieee.Bits.{is_true}
+use Rattle.std.specs.Prelude.{Result, Ok, Err}
 use Rattle.laws.proofs.Never.{never}
 use Rattle.laws.proofs.Bools.{if_case}
 use Rattle.refusal.specs.declared.Refusal.{Refusal}
@@ -25,12 +26,10 @@ use Rattle.words.proofs.Cases.{is_head_lem, case_head, Case, met, missed, there}
 use Rattle.ranges.specs.Table.{data_count, allowed}
 use Rattle.machine_data.specs.Data.{InRanges}
 use Rattle.machine_data.specs.declared.MachineData.{MachineData}
-use Rattle.datum.specs.declared.DatumAnswer as D
 use Rattle.datum.specs.Datum.{value_at}
 use Rattle.datum.proofs.Written.{Wrote, read_written}
 use Rattle.list.specs.Rules.{is_head, se_below}
 use Rattle.list.specs.declared.ListRead.{ListRead}
-use Rattle.list.specs.declared.ListAnswer as A
 use Rattle.list.specs.Reading.{accepted_list, refused_list, place_of, ends, on_value, gather, zeros, read_list}
 use Rattle.list.specs.IsList.{DataTo, end, datum, filled, IsList, list}
 use Rattle.list.proofs.Steps.{by_head, ended_by}
@@ -93,10 +92,10 @@ from_gather m zero s k at acc d n c l = go (se_below acc 11) refl (se_below acc 
 from_gather m (suc i) s k at acc d n c l =
     go (value_at m s k at) (read_written m s k at) (λ z next. from_gather m i s (k + 1) next (set acc k z) d n (omega (arith, c)) (length-set acc k z ∙ l))
   where
-    go : (t : D.DatumAnswer) → ((z : ℤ) (next : ℕ) → t ≡ D.TheVariants.Value z next → Wrote s k at z next × T (allowed m k z))
+    go : (t : Result (ℤ × ℕ) Refusal) → ((z : ℤ) (next : ℕ) → t ≡ Ok (z, next) → Wrote s k at z next × T (allowed m k z))
         → ((z : ℤ) (next : ℕ) → gather m i s (k + 1) next (set acc k z) ≡ accepted_list d n → Gathered m s (k + 1) next (set acc k z) d n)
         → on_value t (λ z next. gather m i s (k + 1) next (set acc k z)) ≡ accepted_list d n → Gathered m s k at acc d n
-    go (D.TheVariants.Value z next) wrote rest e =
+    go (Ok (z, next)) wrote rest e =
         let both = wrote z next refl in
         let w = both.0 in
         let r = rest z next e in
@@ -112,7 +111,7 @@ from_gather m (suc i) s k at acc d n c l =
           below1 = r.below1;
           below2 = r.below2;
         }
-    go (D.TheVariants.Refused why) wrote rest e = never (cc (answer e))
+    go (Err why) wrote rest e = never (cc (answer e))
 
 pub accepted : (s : List ℕ) (d : MachineData) (n : ℕ) → (read_list s ≡ accepted_list d n) ↔ ((n ≤ length s) × IsList d (take n s))
 unfolding read_list
@@ -163,9 +162,9 @@ gather_outcome head zero s k at acc = go (se_below acc 11) (se_below acc 13)
     go true true = as_accepted (record { values = acc; count = k }) at
 gather_outcome head (suc i) s k at acc = go (value_at head s k at) (λ z next. gather_outcome head i s (k + 1) next (set acc k z))
   where
-    go : (t : D.DatumAnswer) {f : ℤ → ℕ → ListRead} → ((z : ℤ) (next : ℕ) → Outcome (f z next)) → Outcome (on_value t f)
-    go (D.TheVariants.Value z next) h = h z next
-    go (D.TheVariants.Refused why) h = as_refused why
+    go : (t : Result (ℤ × ℕ) Refusal) {f : ℤ → ℕ → ListRead} → ((z : ℤ) (next : ℕ) → Outcome (f z next)) → Outcome (on_value t f)
+    go (Ok (z, next)) h = h z next
+    go (Err why) h = as_refused why
 
 pub outcome : (s : List ℕ) → Outcome (read_list s)
 unfolding read_list
@@ -176,27 +175,27 @@ outcome s = go (case_head (word_at s 0) _ (refused_list (WrongWord 0)))
     go (missed q) = as_refused (WrongWord 0)
 
 -- an answer that accepts is the whole of an acceptance
-pub whole_answer : (s : List ℕ) (n : ℕ) → (read_list s).answer ≡ A.TheVariants.Accepted n → read_list s ≡ accepted_list (read_list s).list n
+pub whole_answer : (s : List ℕ) (n : ℕ) → (read_list s).answer ≡ Ok n → read_list s ≡ accepted_list (read_list s).list n
 whole_answer s n = go (outcome s)
   where
-    go : {r : ListRead} → Outcome r → r.answer ≡ A.TheVariants.Accepted n → r ≡ accepted_list r.list n
+    go : {r : ListRead} → Outcome r → r.answer ≡ Ok n → r ≡ accepted_list r.list n
     go (as_accepted d i) e = ap (accepted_list d) {x = i} {y = n} (cc)
     go (as_refused why) e = never (cc)
 
 -- and one that refuses the whole of a refusal
-pub whole_refusal : (s : List ℕ) (why : Refusal) → (read_list s).answer ≡ A.TheVariants.Refused why → read_list s ≡ refused_list why
+pub whole_refusal : (s : List ℕ) (why : Refusal) → (read_list s).answer ≡ Err why → read_list s ≡ refused_list why
 whole_refusal s why = go (outcome s)
   where
-    go : {r : ListRead} → Outcome r → r.answer ≡ A.TheVariants.Refused why → r ≡ refused_list why
+    go : {r : ListRead} → Outcome r → r.answer ≡ Err why → r ≡ refused_list why
     go (as_accepted d i) e = never (cc)
     go (as_refused x) e = ap refused_list {x = x} {y = why} (cc)
 
 -- an accepted list has at most the words given
-pub used_words : (s : List ℕ) (n : ℕ) → (read_list s).answer ≡ A.TheVariants.Accepted n → n ≤ length s
+pub used_words : (s : List ℕ) (n : ℕ) → (read_list s).answer ≡ Ok n → n ≤ length s
 used_words s n e = ((accepted s (read_list s).list n).0 (whole_answer s n e)).0
 
 -- each datum of an accepted list lies in its range
-pub in_ranges : (s : List ℕ) (n : ℕ) → (read_list s).answer ≡ A.TheVariants.Accepted n → InRanges (read_list s).list
+pub in_ranges : (s : List ℕ) (n : ℕ) → (read_list s).answer ≡ Ok n → InRanges (read_list s).list
 in_ranges s n e k h = of_list ((accepted s (read_list s).list n).0 (whole_answer s n e)).1 h
   where
     of_data : {head m i : ℕ} {vs : List ℤ} {ws : List ℕ} → DataTo head m i vs ws → (j : ℕ) → j + i < m → T (allowed head (j + i) (get_or vs j (pos 0)))

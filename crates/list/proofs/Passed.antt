@@ -11,8 +11,9 @@ use lib.IntN.{ℤ, pos}
 use lib.Signed.{le_z}
 use lib.Dec.{T, ltb, ltb→lt}
 use lib.Ieee.Fits.{and_l}
+use Rattle.std.specs.Prelude.{Result}
+use Rattle.refusal.specs.declared.Refusal.{Refusal}
 use Rattle.ranges.specs.Table.{data_count, low_of, high_of, in_range, allowed}
-use Rattle.datum.specs.declared.DatumAnswer as D
 use Rattle.ranges.proofs.Tests.{allowed_in}
 use Rattle.datum.proofs.Written.{written_reads}
 use Rattle.datum.proofs.Forms.{value_behind}
@@ -67,7 +68,7 @@ passed i {head} {j} (datum {k} {z} {vs} {w} {ws} h r x) s at rest e acc l =
       y.1 ∙ drop-set-lt j acc k z (omega (arith, how_many x)),
       y.2 ∙ ap (λ (n : ℕ). take n (set acc k z) ++ vs) (sym (add-one k)) ∙ one_more acc k z vs room,
       ap (λ (n : ℕ). gather head n s k at acc) many
-          ∙ ap (λ (t : D.DatumAnswer). on_value t (λ v next. gather head (length vs + i) s (k + 1) next (set acc k v))) read
+          ∙ ap (λ (t : Result (ℤ × ℕ) Refusal). on_value t (λ v next. gather head (length vs + i) s (k + 1) next (set acc k v))) read
           ∙ ap (λ (n : ℕ). gather head (length vs + i) s n (at + length w) (set acc k z)) (add-one k)
           ∙ y.3
           ∙ ap (λ (n : ℕ). gather head i s j n y.0) far,

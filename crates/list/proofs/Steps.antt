@@ -1,21 +1,16 @@
 -- The head, the data one by one, and the end of a list, by what was read. Assumes nothing.
-use mathlib.Core.Path.{◌≡◌, refl, sym, ap, ◌∙◌, subst}
+use mathlib.Core.Path.{◌≡◌, refl, sym, ap, ◌∙◌}
 use mathlib.Core.List.{List, [], ◌∷◌}
-use mathlib.Core.Bool.{Bool, true, false, not, cond, ◌&&◌, ◌||◌}
+use mathlib.Core.Bool.{Bool, true, false, cond, ◌&&◌, ◌||◌}
 use Prim.Native.Nat.{ℕ, suc, ◌+◌, ◌-◌, ◌≤◌, ◌<◌}
 use native.Mathlib.Numerals.{add-one}
 use native.Mathlib.Omega.{arith}
-use lib.ListN.{set, get_or}
-use lib.IntN.{ℤ, pos}
-use lib.Signed.{lt_z, le_z, lt_z_yes, le_z_yes, lt_z_no, clash_ℤ, mag}
+use lib.ListN.{set}
+use lib.IntN.{ℤ}
 use lib.Dec.{T, eqb, leb, leb→le}
 use lib.Ieee.Fits.{and_l, and_r}
-use lib.Ieee.Bits.{is_true}
-use mir.Syntax.{w32}
-use mir.Val.{to_z, of_z}
-use mir.ValLaws.{to_z-of_z}
 use borrow.Author.Tests.{eqb-true}
-use Rattle.laws.proofs.Bools.{is_false}
+use Rattle.std.specs.Prelude.{Result, Ok, Err}
 use Rattle.refusal.specs.declared.Refusal.{Refusal}
 use Rattle.refusal.specs.declared.Refusal.TheVariants.{WrongWord, SeEnds}
 use Rattle.words.specs.declared.Word.{Word}
@@ -25,7 +20,6 @@ use Rattle.words.specs.Cases.{if_head}
 use Rattle.words.proofs.Cases.{no_head}
 use Rattle.ranges.specs.Table.{data_count}
 use Rattle.machine_data.specs.declared.MachineData.{MachineData}
-use Rattle.datum.specs.declared.DatumAnswer as D
 use Rattle.datum.specs.Datum.{value_at, behind_of}
 use Rattle.list.specs.Rules.{among, heads, is_head, se_below}
 use Rattle.list.specs.Reading.{accepted_list, refused_list, place_of, ends, on_value, gather, zeros, read_list}
@@ -76,18 +70,18 @@ module _ (s : List ℕ) (count k at : ℕ) (vs : List ℤ) {r : ListRead} (inv :
   later : ℤ → ℕ → ListRead
   later z next = gather count (count - (k + 1)) s (k + 1) next (set vs k z)
 
-  turned : k < count → {t : D.DatumAnswer} → value_at count s k at ≡ t → on_value t later ≡ r
+  turned : k < count → {t : Result (ℤ × ℕ) Refusal} → value_at count s k at ≡ t → on_value t later ≡ r
   unfolding gather later
   turned h {t} e =
       let less : count - k ≡ suc (count - (k + 1)) = omega arith in
-      sym (ap (λ (x : D.DatumAnswer). on_value x later) e) ∙ ap (λ (n : ℕ). gather count n s k at vs) (sym less) ∙ inv
+      sym (ap (λ (x : Result (ℤ × ℕ) Refusal). on_value x later) e) ∙ ap (λ (n : ℕ). gather count n s k at vs) (sym less) ∙ inv
 
-  pub again : k < count → {z : ℤ} {next : ℕ} → value_at count s k at ≡ D.TheVariants.Value z next → {y : ℤ} → y ≡ z →
+  pub again : k < count → {z : ℤ} {next : ℕ} → value_at count s k at ≡ Ok (z, next) → {y : ℤ} → y ≡ z →
       gather count (count - (k + 1)) s (k + 1) next (set vs k y) ≡ r
   unfolding later
   again h {z} {next} st e = (λ i. gather count (count - (k + 1)) s (k + 1) next (set vs k (e i))) ∙ turned h st
 
-  pub stopped : k < count → {why : Refusal} → value_at count s k at ≡ D.TheVariants.Refused why → refused_list why ≡ r
+  pub stopped : k < count → {why : Refusal} → value_at count s k at ≡ Err why → refused_list why ≡ r
   stopped h st = turned h st
 
   pub all_read : k ≤ count → count ≤ k → ends s (record { values = vs; count = count }) at ≡ r
@@ -105,21 +99,6 @@ module _ (s : List ℕ) (k : ℕ) where
   next_place e = ap (behind_of s) e ∙ ap (place_of s) (sym (add-one k))
 
 -- ---- the end of a list
-
-not_below : (a b : ℤ) (t : Bool) → le_z b a ≡ t → lt_z a b ≡ not t
-not_below a b true e = is_false (lt_z a b) (λ h. absurd (clash_ℤ {a = a} {b = b} (lt_z_yes h) (le_z_yes (subst T (sym e) tt))))
-not_below a b false e = go (lt_z a b) refl
-  where
-    go : (t : Bool) → lt_z a b ≡ t → lt_z a b ≡ true
-    go true q = q
-    go false q = absurd (subst T (sym (is_true (le_z b a) (lt_z_no {a = a} {b = b} (subst (λ (t : Bool). T (not t)) (sym q) tt)).le) ∙ e) tt)
-
--- two elements of an array of i32, as the machine compares them
-pub below_by_test : (vs : List ℤ) (k : ℕ) (t : Bool) → mag (get_or vs (suc k) (pos 0)) < 2147483648 → mag (get_or vs k (pos 0)) < 2147483648 →
-    le_z (to_z w32 (of_z w32 (get_or vs (suc k) (pos 0)))) (to_z w32 (of_z w32 (get_or vs k (pos 0)))) ≡ t → se_below vs k ≡ not t
-below_by_test vs k t p q e =
-    not_below (get_or vs k (pos 0)) (get_or vs (suc k) (pos 0)) t
-    (sym (λ x. le_z (to_z-of_z w32 (get_or vs (suc k) (pos 0)) (record { sfits = p }) x) (to_z-of_z w32 (get_or vs k (pos 0)) (record { sfits = q }) x)) ∙ e)
 
 pub ended_by : (s : List ℕ) (d : MachineData) (n : ℕ) {t u : Bool} → se_below d.values 11 ≡ t → se_below d.values 13 ≡ u →
     cond t (cond u (accepted_list d n) (refused_list (SeEnds (place_of s 13)))) (refused_list (SeEnds (place_of s 11))) ≡ ends s d n

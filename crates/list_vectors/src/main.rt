@@ -5,181 +5,103 @@
 // list A before the base, b as list B behind the base. What stands behind a # is a remark.
 #![tactic(auto)]
 
-ghost use Rattle.std.specs.Prelude.{◌≤◌, length};
-
-use kit::KitAnswer;
-use list::ListAnswer;
+use arrayvec::ArrayVec;
 use machine_data::MachineData;
-use ranges::DATA;
-use refusal::{Part, Refusal};
-use std::io::Read;
+use refusal::{KitRefusal, Part, Refusal};
 
-// The words of a list, or the numbers of a line.
+// The words of a list, or the numbers of a line: as many as there is room for.
+type Words = ArrayVec<u32, 512>;
+
+// What a vector does with the base list.
 #[derive(Clone, Copy)]
-struct Words {
-    words: [u32; 512],
-    count: usize,
+enum Vector {
+    Base,
+    List,
+    ListA,
+    ListB,
 }
 
-impl Words {
-    fn new() -> Words {
-        Words {
-            words: [0u32; 512],
-            count: 0,
+impl Vector {
+    fn named(b: u8) -> Option<Vector> {
+        match b {
+            b'=' => Some(Vector::Base),
+            b'l' => Some(Vector::List),
+            b'a' => Some(Vector::ListA),
+            b'b' => Some(Vector::ListB),
+            _ => None,
         }
-    }
-
-    // One word more, where there is room.
-    fn with(self, w: u32) -> Words {
-        let at = self.count;
-        if 512 <= at {
-            return self;
-        }
-        let mut next = self;
-        next.words[at] = w;
-        next.count = at + 1;
-        next
-    }
-
-    // Word i, 0 where there is none.
-    fn at(self, i: usize) -> u32 {
-        if i < 512 { self.words[i] } else { 0 }
-    }
-
-    // The words of `other` from `from` up to `to` behind these.
-    fn then(self, other: Words, from: usize, to: usize) -> Words {
-        let mut all = self;
-        let mut i = from;
-        while i < to {
-            all = all.with(other.at(i));
-            i += 1;
-        }
-        all
     }
 }
 
 // A line as far as it is read.
-#[derive(Clone, Copy)]
+#[derive(Drop)]
 struct Line {
-    mode: u8,
+    // by its first byte
+    vector: Option<Vector>,
     numbers: Words,
-    value: u32,
-    digits: bool,
+    // the number that is being read
+    value: Option<u32>,
     remark: bool,
 }
 
-fn no_line() -> Line {
-    Line {
-        mode: 0,
-        numbers: Words::new(),
-        value: 0,
-        digits: false,
-        remark: false,
-    }
-}
-
-// A hexadecimal digit, 16 for any other byte.
-fn digit(b: u8) -> u32 {
-    if b < 48 {
-        16
-    } else if b < 58 {
-        (b - 48) as u32
-    } else if b < 97 {
-        16
-    } else if b < 103 {
-        (b - 87) as u32
-    } else {
-        16
+// A hexadecimal digit.
+fn digit(b: u8) -> Option<u32> {
+    match b {
+        b'0'..=b'9' => Some(u32::from(b - b'0')),
+        b'a'..=b'f' => Some(u32::from(b - b'a') + 10),
+        _ => None,
     }
 }
 
 impl Line {
+    fn new() -> Line {
+        Line {
+            vector: None,
+            numbers: Words::new(),
+            value: None,
+            remark: false,
+        }
+    }
+
     // The number that was being read is complete.
-    fn closed(self) -> Line {
-        if self.digits {
-            let w = self.value;
-            let before = self.numbers;
-            Line {
-                mode: self.mode,
-                numbers: before.with(w),
-                value: 0,
-                digits: false,
-                remark: self.remark,
-            }
-        } else {
-            self
+    fn close(&mut self) {
+        if let Some(w) = self.value.take() {
+            let _ = self.numbers.try_push(w);
         }
     }
 
-    fn with_digit(self, d: u32) -> Line {
-        let before = self.numbers;
-        Line {
-            mode: self.mode,
-            numbers: before,
-            value: self.value % 268435456 * 16 + d % 16,
-            digits: true,
-            remark: self.remark,
-        }
-    }
-
-    fn with_mode(self, b: u8) -> Line {
-        let before = self.numbers;
-        Line {
-            mode: b,
-            numbers: before,
-            value: 0,
-            digits: false,
-            remark: b == b'#',
-        }
-    }
-
-    fn remarked(self) -> Line {
-        let closed = self.closed();
-        let before = closed.numbers;
-        Line {
-            mode: closed.mode,
-            numbers: before,
-            value: 0,
-            digits: false,
-            remark: true,
-        }
-    }
-
-    // One byte more, which is no line feed.
-    fn with(self, b: u8) -> Line {
+    // One byte more, which is no line feed. A line that names no vector is a remark; bytes 0 before the name count for nothing.
+    fn push(&mut self, b: u8) {
         if self.remark {
-            return self;
+            return;
         }
-        if self.mode == 0 {
-            return self.with_mode(b);
-        }
-        if b == b'#' {
-            return self.remarked();
-        }
-        let d = digit(b);
-        if d < 16 {
-            self.with_digit(d)
+        if self.vector.is_none() {
+            self.vector = Vector::named(b);
+            self.remark = self.vector.is_none() && b != 0;
+        } else if let Some(d) = digit(b) {
+            self.value = Some(self.value.unwrap_or(0) << 4 | d);
         } else {
-            self.closed()
+            self.close();
+            self.remark = b == b'#';
         }
+    }
+
+    // Number i, 0 where there is none.
+    fn number(&self, i: usize) -> usize {
+        self.numbers.get(i).copied().unwrap_or(0) as usize
     }
 
     // The base with the line's edit.
-    fn edited(self, base: Words) -> Words {
-        let numbers = self.numbers;
-        let place = numbers.at(0) as usize;
-        let removed = numbers.at(1) as usize;
-        let given = numbers.count;
-        let old = base.count;
-        let front = Words::new().then(base, 0, least(place, old));
-        front
-            .then(numbers, 2, given)
-            .then(base, place + removed, old)
+    fn edited(&self, base: &Words) -> Words {
+        let place = self.number(0);
+        let removed = self.number(1);
+        let before = base.iter().take(place);
+        let behind = base.iter().skip(place).skip(removed);
+        let words = before.chain(self.numbers.iter().skip(2)).chain(behind);
+        let mut edited = Words::new();
+        let _ = edited.extend(words.copied());
+        edited
     }
-}
-
-fn least(a: usize, b: usize) -> usize {
-    if a < b { a } else { b }
 }
 
 // On standard output. What cannot be written is left out, and the next that can be follows.
@@ -187,76 +109,38 @@ fn put(rt: &impl Print, bytes: &[u8]) {
     let _ = rt.write_all(bytes);
 }
 
-fn put_decimal(rt: &impl Print, n: u64) {
-    let _ = rt.print(n);
-}
-
-fn put_space(rt: &impl Print) {
-    put(rt, b" ");
-}
-
 fn put_number(rt: &impl Print, n: u64) {
-    put_space(rt);
-    put_decimal(rt, n);
+    put(rt, b" ");
+    let _ = rt.print(n);
 }
 
 fn put_value(rt: &impl Print, k: usize, z: i32) {
     put_number(rt, k as u64);
-    if z < 0 {
-        put(rt, b"=-");
-    } else {
-        put(rt, b"=");
-    }
-    put_decimal(rt, distance::distance(z, 0) as u64);
+    put(rt, b"=");
+    let _ = rt.print(z);
 }
 
 // The data that differ from the base list's.
 fn put_changed(rt: &impl Print, base: MachineData, list: MachineData) {
-    let mut k = 0usize;
-    while k < DATA {
-        let old = base.values[k];
-        let new = list.values[k];
+    for (k, (old, new)) in base.values.iter().zip(&list.values).enumerate() {
         if old != new {
-            put_value(rt, k, new);
+            put_value(rt, k, *new);
         }
-        k += 1;
     }
 }
 
-fn read_first(words: &[u32], n: usize) -> list::ListRead {
-    if n < words.len() {
-        list::read_list(&words[..n])
-    } else {
-        list::read_list(words)
-    }
-}
-
-fn read_words(words: Words) -> list::ListRead {
-    read_first(&words.words, words.count)
-}
-
-fn put_list(rt: &impl Print, base: Words, words: Words) {
-    let read = read_words(words);
-    let answer = read.answer;
-    let list = read.list;
-    match answer {
-        ListAnswer::Accepted(n) => {
+fn put_list(rt: &impl Print, base: &Words, words: &Words) {
+    let read = list::read_list(words.as_slice());
+    match read.answer {
+        Ok(n) => {
             put(rt, b"accepted");
             put_number(rt, n as u64);
-            put_changed(rt, read_words(base).list, list);
+            put_changed(rt, list::read_list(base.as_slice()).list, read.list);
         }
-        ListAnswer::Refused(why) => {
+        Err(why) => {
             put(rt, b"refused");
             put_refusal(rt, why);
         }
-    }
-}
-
-fn read_first_kit(words: &[u32], n: usize) -> kit::KitRead {
-    if n < words.len() {
-        kit::read_kit(&words[..n])
-    } else {
-        kit::read_kit(words)
     }
 }
 
@@ -266,28 +150,25 @@ fn put_refusal(rt: &impl Print, why: Refusal) {
 }
 
 fn put_part(rt: &impl Print, part: Part) {
-    match part {
-        Part::ListA => {
-            put(rt, b" A");
-        }
-        Part::ListB => {
-            put(rt, b" B");
-        }
-        Part::Log => {
-            put(rt, b" L");
-        }
-    }
+    put(
+        rt,
+        match part {
+            Part::ListA => b" A",
+            Part::ListB => b" B",
+            Part::Log => b" L",
+        },
+    );
 }
 
-fn put_kit(rt: &impl Print, words: Words) {
-    let read = read_first_kit(&words.words, words.count);
-    let answer = read.answer;
-    match answer {
-        KitAnswer::Accepted(n) => {
+fn put_kit(rt: &impl Print, first: &Words, behind: &Words) {
+    let mut words = Words::new();
+    let _ = words.extend(first.iter().chain(behind.iter()).copied());
+    match kit::read_kit(words.as_slice()).answer {
+        Ok(n) => {
             put(rt, b"accepted");
             put_number(rt, n as u64);
         }
-        KitAnswer::Refused(why, part) => {
+        Err(KitRefusal { why, part }) => {
             put(rt, b"refused");
             put_part(rt, part);
             put_refusal(rt, why);
@@ -297,19 +178,15 @@ fn put_kit(rt: &impl Print, words: Words) {
 
 // The answer to a line; the base for the lines behind it.
 fn answered(rt: &impl Print, line: Line, base: Words) -> Words {
-    let mode = line.mode;
-    if mode == b'=' {
-        return line.numbers;
-    }
-    let edited = line.edited(base);
-    if mode == b'l' {
-        put_list(rt, base, edited);
-    } else if mode == b'a' {
-        put_kit(rt, edited.then(base, 0, base.count));
-    } else if mode == b'b' {
-        put_kit(rt, base.then(edited, 0, edited.count));
-    } else {
+    let Some(vector) = line.vector else {
         return base;
+    };
+    let edited = line.edited(&base);
+    match vector {
+        Vector::Base => return line.numbers,
+        Vector::List => put_list(rt, &base, &edited),
+        Vector::ListA => put_kit(rt, &edited, &base),
+        Vector::ListB => put_kit(rt, &base, &edited),
     }
     put(rt, b"\n");
     base
@@ -317,36 +194,21 @@ fn answered(rt: &impl Print, line: Line, base: Words) -> Words {
 
 fn run(rt: &impl Print, text: &[u8]) {
     let mut base = Words::new();
-    let mut line = no_line();
-    let mut i = 0usize;
-    while i < text.len() {
-        let b = text[i];
-        if b == b'\n' {
-            base = answered(rt, line.closed(), base);
-            line = no_line();
+    let mut line = Line::new();
+    for b in text {
+        if *b == b'\n' {
+            line.close();
+            base = answered(rt, line, base);
+            line = Line::new();
         } else {
-            line = line.with(b);
-        }
-        i += 1;
-    }
-}
-
-// How many bytes were read, up to the end of the input or of the room, or to where it could not be read.
-fn read_full(input: &mut impl Read, room: &mut [u8]) -> usize
-    ensures { result ≤ length room.new }
-{
-    let mut done = 0usize;
-    while done < room.len() {
-        match input.read(&mut room[done..]) {
-            Ok(0) | Err(_) => return done,
-            Ok(more) => done += more,
+            line.push(*b);
         }
     }
-    done
 }
 
 fn main(rt: HostRuntime) {
     let mut text = [0u8; 65536];
-    let n = read_full(&mut rt.stdin(), &mut text);
+    // What was read up to a failure is run.
+    let (n, _) = reading::fill(&mut rt.stdin(), &mut text);
     run(&rt, &text[..n]);
 }

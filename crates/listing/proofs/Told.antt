@@ -6,7 +6,8 @@ use native.Mathlib.Omega.{arith}
 use lib.ListN.{length, take, drop, length-drop, length-append}
 use lib.Seq.{take_at, take_all}
 use borrow.Author.Tests.{le-ltb}
-use Rattle.kit.specs.declared.KitAnswer as K
+use Rattle.std.proofs.Common.{Result, Ok, Err}
+use Rattle.refusal.specs.declared.KitRefusal.{KitRefusal}
 use Rattle.kit.specs.Kit.{read_kit}
 use Rattle.records.specs.Records.{LogRead, records, fault, log_of}
 use Rattle.channel.specs.Cycle.{fresh_channel}
@@ -44,6 +45,6 @@ module _ (out : List ℕ) where
   unfolding said_of kit_ran
   told words short room = go (read_kit words).answer
     where
-      go : (x : K.KitAnswer) → Told (text_of (by_lists words (read_kit words) x)) out (by_kit words out (read_kit words) x)
-      go (K.TheVariants.Accepted at) = by_log_lem (read_kit words).a (read_kit words).b (drop at words) (omega (arith, length-drop at words, short)) (omega (arith, length-drop at words, room))
-      go (K.TheVariants.Refused why part) = (refl, omega arith, refl)
+      go : (x : Result ℕ KitRefusal) → Told (text_of (by_lists words (read_kit words) x)) out (by_kit words out (read_kit words) x)
+      go (Ok at) = by_log_lem (read_kit words).a (read_kit words).b (drop at words) (omega (arith, length-drop at words, short)) (omega (arith, length-drop at words, room))
+      go (Err r) = (refl, omega arith, refl)

@@ -1,8 +1,7 @@
 -- The bench's text for a kit's bytes: document 01, "The bench program".
-use Rattle.std.specs.Prelude.{ℕ, ◌*◌, ◌/◌, ◌%◌, ◌≤◌, ◌≡◌, cond, List, [], ◌∷◌, length, take, drop}
+use Rattle.std.specs.Prelude.{ℕ, ◌*◌, ◌/◌, ◌%◌, ◌≤◌, ◌≡◌, cond, List, [], ◌∷◌, length, take, drop, Result, Ok, Err}
 use Rattle.machine_data.specs.declared.MachineData.{MachineData}
 use Rattle.kit.specs.declared.KitRead.{KitRead}
-use Rattle.kit.specs.declared.KitAnswer as K
 use Rattle.kit.specs.Kit.{read_kit}
 use Rattle.records.specs.Records.{LogRead, records, fault, log_of}
 use Rattle.channel.specs.Cycle.{fresh_channel}
@@ -11,8 +10,9 @@ use Rattle.refusal.specs.Refusal.{refusal_number, refusal_place}
 use Rattle.refusal.specs.declared.Refusal.{Refusal}
 use Rattle.refusal.specs.declared.Refusal.TheVariants.{WrongLog}
 use Rattle.refusal.specs.declared.Part as P
-use Rattle.kit_run.specs.declared.KitRun as R
+use Rattle.refusal.specs.declared.KitRefusal.{KitRefusal}
 use Rattle.kit_bytes.specs.KitBytes.{whole_words, words_of}
+use Rattle.lines.specs.declared.RefusalLine.{RefusalLine}
 use Rattle.lines.specs.Lines.{refusal_line}
 use Rattle.run_text.specs.RunText.{lines_from, run_text}
 
@@ -24,7 +24,7 @@ letter_of P.TheVariants.Log = 76
 
 -- "`refused`, number, place (both decimal) and A, B or L"
 abbrev pub refused_text : Refusal → P.Part → List ℕ
-refused_text why part = refusal_line (refusal_number why) (refusal_place why) (letter_of part)
+refused_text why part = refusal_line (record { number = refusal_number why; place = refusal_place why; letter = letter_of part })
 
 -- what the bench says of a kit: the words of its run, or a refusal
 pub data Said : Type 0 where
@@ -36,9 +36,9 @@ abbrev pub by_log : MachineData → MachineData → LogRead → Said
 by_log a b (records rs) = ran (lines_of a b (both_of (fresh_channel a) (fresh_channel b)) rs)
 by_log a b (fault place) = refused (WrongLog place) P.TheVariants.Log
 
-abbrev pub by_lists : List ℕ → KitRead → K.KitAnswer → Said
-by_lists words r (K.TheVariants.Accepted at) = by_log r.a r.b (log_of (drop at words))
-by_lists words r (K.TheVariants.Refused why part) = refused why part
+abbrev pub by_lists : List ℕ → KitRead → Result ℕ KitRefusal → Said
+by_lists words r (Ok at) = by_log r.a r.b (log_of (drop at words))
+by_lists words r (Err e) = refused e.why e.part
 
 -- "It reads a kit (list A, list B, log; .."
 unfoldable pub said_of : List ℕ → Said
@@ -57,27 +57,30 @@ abbrev pub listed : List ℕ → List ℕ
 listed bytes = text_of (said bytes)
 
 -- how many cycles a kit's run has; a refused kit has none
-abbrev pub cycles_of : R.KitRun → ℕ
-cycles_of (R.TheVariants.Ran cycles) = cycles
-cycles_of (R.TheVariants.Refused why part) = 0
+abbrev pub cycles_of : Result ℕ KitRefusal → ℕ
+cycles_of (Ok cycles) = cycles
+cycles_of (Err r) = 0
 
 -- a refusal's number, place and letter; of a kit that was run all 0
-abbrev pub told_of : R.KitRun → List ℕ
-told_of (R.TheVariants.Ran cycles) = 0 ∷ 0 ∷ 0 ∷ []
-told_of (R.TheVariants.Refused why part) = refusal_number why ∷ refusal_place why ∷ letter_of part ∷ []
+abbrev pub told_of : Result ℕ KitRefusal → List ℕ
+told_of (Ok cycles) = 0 ∷ 0 ∷ 0 ∷ []
+told_of (Err r) = refusal_number r.why ∷ refusal_place r.why ∷ letter_of r.part ∷ []
 
 -- ---- of the private functions
+
+abbrev pub line_of : KitRefusal → RefusalLine
+line_of r = record { number = refusal_number r.why; place = refusal_place r.why; letter = letter_of r.part }
 
 abbrev pub of_words : List ℕ → List ℕ
 of_words words = text_of (said_of words)
 
 -- the text for a run's answer and the words that it left
-abbrev pub answer_text : R.KitRun → List ℕ → List ℕ
-answer_text (R.TheVariants.Ran cycles) words = run_text (take (3 * cycles) words)
-answer_text (R.TheVariants.Refused why part) words = refused_text why part
+abbrev pub answer_text : Result ℕ KitRefusal → List ℕ → List ℕ
+answer_text (Ok cycles) words = run_text (take (3 * cycles) words)
+answer_text (Err r) words = refused_text r.why r.part
 
 -- the run's words are there, and no more than 2,340 cycles
-abbrev pub HasCycles : R.KitRun → List ℕ → Type 0
+abbrev pub HasCycles : Result ℕ KitRefusal → List ℕ → Type 0
 HasCycles answer words = (3 * cycles_of answer ≤ length words) × (length words ≤ 7020)
 
 -- a kit in whole words, with room for the words of its run, where there is room for its own

@@ -1,16 +1,15 @@
 // A kit's bytes listed as the bench's text, in a lent buffer.
 #![tactic(auto)]
 
-ghost use Rattle.std.specs.Prelude.{◌≡◌, ◌∷◌, [], ◌%◌, ◌≤◌, length};
-ghost use Rattle.numerals.specs.Written.{written};
+ghost use Rattle.std.specs.Prelude.{◌≡◌, ◌%◌, ◌≤◌, length};
+ghost use Rattle.numerals.specs.Written.{Puts};
 ghost use Rattle.kit_bytes.specs.KitBytes.{words_of};
-ghost use Rattle.listing.specs.Listing.{letter_of, refused_text, of_words, listed, answer_text, HasCycles, Rooms, cycles_of, told_of};
+ghost use Rattle.listing.specs.Listing.{letter_of, line_of as Listing·line_of, of_words, listed, answer_text, HasCycles, Rooms, cycles_of, told_of};
 ghost use Rattle.kit_run.specs.KitRun.{kit_ran};
 
 use kit_bytes::{read_words, whole_words};
-use kit_run::KitRun;
-use lines::put_refusal;
-use refusal::{Part, Refusal};
+use lines::RefusalLine;
+use refusal::{KitRefusal, Part, Refusal};
 use run_text::put_run;
 
 fn letter(part: Part) -> u8
@@ -23,24 +22,23 @@ fn letter(part: Part) -> u8
     }
 }
 
-// A refusal's line.
-fn put_refused(out: &mut [u8], why: Refusal, part: Part) -> usize
-    ensures value { result ≡ length (refused_text why part) }
-    ensures out_after { out.new ≡ written 0 (refused_text why part) out.old }
-    ensures upper_bound { result ≤ 74880 }
+fn line_of(refused: KitRefusal) -> RefusalLine
+    ensures { result ≡ Listing·line_of refused }
 {
-    put_refusal(out, why.number(), why.place(), letter(part))
+    RefusalLine {
+        number: refused.why.number(),
+        place: refused.why.place(),
+        letter: letter(refused.part),
+    }
 }
 
-fn put_answer(out: &mut [u8], answer: KitRun, words: &[u32]) -> usize
+fn put_answer(out: &mut [u8], answer: Result<usize, KitRefusal>, words: &[u32]) -> usize
     requires { HasCycles answer words.now }
-    ensures value { result ≡ length (answer_text answer words.now) }
-    ensures out_after { out.new ≡ written 0 (answer_text answer words.now) out.old }
-    ensures upper_bound { result ≤ 74880 }
+    ensures { Puts 74880 (answer_text answer words.now) result out.old out.new }
 {
     match answer {
-        KitRun::Ran(cycles) => put_run(out, &words[..3 * cycles]),
-        KitRun::Refused(why, part) => put_refused(out, why, part),
+        Ok(cycles) => put_run(out, &words[..3 * cycles]),
+        Err(refused) => line_of(refused).put(out),
     }
 }
 
@@ -49,9 +47,7 @@ fn put_answer(out: &mut [u8], answer: KitRun, words: &[u32]) -> usize
 #[cycle(list_in_list_long)]
 fn list_in(kit: &[u8], room: &mut [u32], ran: &mut [u32], out: &mut [u8]) -> usize
     requires { Rooms kit.now room.old ran.old }
-    ensures value { result ≡ length (of_words (words_of kit.now)) }
-    ensures out_after { out.new ≡ written 0 (of_words (words_of kit.now)) out.old }
-    ensures upper_bound { result ≤ 74880 }
+    ensures { Puts 74880 (of_words (words_of kit.now)) result out.old out.new }
 {
     let many = kit.len() / 4;
     if room.len() < many {
@@ -70,9 +66,7 @@ fn list_in(kit: &[u8], room: &mut [u32], ran: &mut [u32], out: &mut [u8]) -> usi
 fn list_long(kit: &[u8], out: &mut [u8]) -> usize
     requires kit_len_bound { length kit.now ≤ 65536 }
     requires kit_len { length kit.now % 4 ≡ 0 }
-    ensures value { result ≡ length (of_words (words_of kit.now)) }
-    ensures out_after { out.new ≡ written 0 (of_words (words_of kit.now)) out.old }
-    ensures upper_bound { result ≤ 74880 }
+    ensures { Puts 74880 (of_words (words_of kit.now)) result out.old out.new }
 {
     let mut words = [0u32; 16384];
     let mut ran = [0u32; 7020];
@@ -83,22 +77,18 @@ fn list_long(kit: &[u8], out: &mut [u8]) -> usize
 // lines of 32 bytes. The room is that of a kit of 2,560 words, as most are, whose log has at most 365 cycles: clearing room
 // for the largest takes longer than listing one, and no such kit needs the stack for it.
 pub fn list_kit(kit: &[u8], out: &mut [u8]) -> usize
-    ensures value { result ≡ length (listed kit.now) }
-    ensures out_after { out.new ≡ written 0 (listed kit.now) out.old }
-    ensures upper_bound { result ≤ 74880 }
+    ensures { Puts 74880 (listed kit.now) result out.old out.new }
 {
     if !whole_words(kit.len()) {
-        return put_refused(out, Refusal::WrongLog(0), Part::Log);
+        let refused = KitRefusal {
+            why: Refusal::WrongLog(0),
+            part: Part::Log,
+        };
+        return line_of(refused).put(out);
     }
     let mut words = [0u32; 2560];
     let mut ran = [0u32; 1095];
     list_in(kit, &mut words, &mut ran, out)
-}
-
-fn tell(told: &mut [u64; 3], number: u32, place: usize, letter: u8)
-    ensures { told.new ≡ number ∷ place ∷ letter ∷ [] }
-{
-    *told = [number as u64, place as u64, letter as u64];
 }
 
 // A kit's words run: the number of cycles, whose words stand at the output's front, and in `told` 0. Where the kit is
@@ -109,12 +99,13 @@ pub fn run_kit(words: &[u32], out: &mut [u32], told: &mut [u64; 3]) -> usize
     ensures told_after { told.new ≡ told_of (kit_ran words.now out.old).answer }
 {
     match kit_run::run_kit(words, out) {
-        KitRun::Ran(cycles) => {
-            tell(told, 0, 0, 0);
+        Ok(cycles) => {
+            *told = [0, 0, 0];
             cycles
         }
-        KitRun::Refused(why, part) => {
-            tell(told, why.number(), why.place(), letter(part));
+        Err(refused) => {
+            let line = line_of(refused);
+            *told = [line.number as u64, line.place as u64, line.letter as u64];
             0
         }
     }

@@ -16,37 +16,37 @@ use Rattle.records.specs.Records.{LogRead, records, fault, log_of}
 use Rattle.records.specs.IsLog.{IsLog}
 use Rattle.records.proofs.Logs.{is_log}
 use Rattle.channel.specs.declared.Channel.{Channel}
-use Rattle.logs.specs.declared.LogAnswer.TheVariants.{Accepted}
+use Rattle.std.proofs.Common.{Ok}
 use Rattle.logs.specs.IsAccepted.{IsAccepted}
 use Rattle.logs.specs.Run.{refusing, running, by_records, ran_of}
 
-pub accepted_log : (a b : Channel) (words out : List ℕ) (n : ℕ) → ((ran_of a b words out).answer ≡ Accepted n) ↔ IsAccepted words out n
+pub accepted_log : (a b : Channel) (words out : List ℕ) (n : ℕ) → ((ran_of a b words out).answer ≡ Ok n) ↔ IsAccepted words out n
 unfolding ran_of
 accepted_log a b words out n = (by_length (ltb 16384 (length words)) refl, back)
   where
     by_room : length words ≤ 16384 → (rs : List CycleRecord) → log_of words ≡ records rs → (t : Bool) → ltb (length out) (3 * length rs) ≡ t →
-        (cond t (refusing a b out (ShortOutput (3 * length rs))) (running a b out rs)).answer ≡ Accepted n → IsAccepted words out n
+        (cond t (refusing a b out (ShortOutput (3 * length rs))) (running a b out rs)).answer ≡ Ok n → IsAccepted words out n
     by_room short rs log true q e = never (cc)
     by_room short rs log false q e =
         let size : length rs ≡ n = cc in
         record { short = short; rs = rs; log = (is_log words rs).0 log; cycles = sym size; room = omega (arith, ltb-false (length out) (3 * length rs) q) }
 
-    by_log_lem : length words ≤ 16384 → (l : LogRead) → log_of words ≡ l → (by_records a b out l).answer ≡ Accepted n → IsAccepted words out n
+    by_log_lem : length words ≤ 16384 → (l : LogRead) → log_of words ≡ l → (by_records a b out l).answer ≡ Ok n → IsAccepted words out n
     by_log_lem short (fault place) log e = never (cc)
     by_log_lem short (records rs) log e = by_room short rs log (ltb (length out) (3 * length rs)) refl e
 
-    by_length : (t : Bool) → ltb 16384 (length words) ≡ t → (cond t (refusing a b out (WrongLog 16384)) (by_records a b out (log_of words))).answer ≡ Accepted n → IsAccepted words out n
+    by_length : (t : Bool) → ltb 16384 (length words) ≡ t → (cond t (refusing a b out (WrongLog 16384)) (by_records a b out (log_of words))).answer ≡ Ok n → IsAccepted words out n
     by_length true q e = never (cc)
     by_length false q e = by_log_lem (ltb-false 16384 (length words) q) (log_of words) refl e
 
-    back : IsAccepted words out n → (cond (ltb 16384 (length words)) (refusing a b out (WrongLog 16384)) (by_records a b out (log_of words))).answer ≡ Accepted n
+    back : IsAccepted words out n → (cond (ltb 16384 (length words)) (refusing a b out (WrongLog 16384)) (by_records a b out (log_of words))).answer ≡ Ok n
     back x =
         let log : log_of words ≡ records x.rs = (is_log words x.rs).1 x.log in
         let room : 3 * length x.rs ≤ length out = omega (arith, x.cycles, x.room) in
         ap (λ (t : Bool). (cond t (refusing a b out (WrongLog 16384)) (by_records a b out (log_of words))).answer) (le-ltb 16384 (length words) x.short)
         ∙ ap (λ (l : LogRead). (by_records a b out l).answer) log
         ∙ ap (λ (t : Bool). (cond t (refusing a b out (ShortOutput (3 * length x.rs))) (running a b out x.rs)).answer) (le-ltb (length out) (3 * length x.rs) room)
-        ∙ ap Accepted (sym x.cycles)
+        ∙ ap Ok (sym x.cycles)
 
 -- the whole answer for an accepted log: "The number of cycles and both channels come back", and the output has its words
 pub accepted_runs : (a b : Channel) (words out : List ℕ) (rs : List CycleRecord) → length words ≤ 16_384 → IsLog rs words → 3 * length rs ≤ length out → ran_of a b words out ≡ running a b out rs

@@ -1,5 +1,5 @@
 -- One channel of a log's run by itself, and where its words go: of the private functions. proofs/Apart.antt ties them to Run.antt.
-use Rattle.std.specs.Prelude.{ℕ, zero, suc, ◌+◌, Bool, not, cond, List, [], ◌∷◌, get_or, set}
+use Rattle.std.specs.Prelude.{ℕ, zero, suc, ◌+◌, List, [], ◌∷◌, get_or, set}
 use Rattle.machine_data.specs.declared.MachineData.{MachineData}
 use Rattle.inputs.specs.declared.Reading.{Reading}
 use Rattle.seven.specs.declared.CycleRecord.{CycleRecord}
@@ -9,25 +9,33 @@ use Rattle.report.specs.Report.{next_k}
 use Rattle.channel.specs.Cycle.{next}
 use Rattle.channel.specs.Word.{word}
 use Rattle.device.specs.Device.{device_of}
+use Rattle.logs.specs.declared.Side.{Side}
+use Rattle.logs.specs.declared.Side.TheVariants.{A, B}
 use Rattle.logs.specs.Run.{given_by}
 
--- A's reading is the first of a record, B's the second
-abbrev pub reading_in : Bool → CycleRecord → Reading
-reading_in second r = cond second r.b r.a
+-- A's reading is the first of a record, B's the second: the own reading of a channel, and the other's
+abbrev pub readings_in : Side → CycleRecord → Reading × Reading
+readings_in A r = (r.a, r.b)
+readings_in B r = (r.b, r.a)
+
+-- A's word is the first of a cycle's three, B's the second
+abbrev pub first_place : Side → ℕ
+first_place A = 0
+first_place B = 1
 
 -- what a record gives a channel, beside the other's data e and k
-abbrev pub given_in : Bool → MachineData → ℕ → CycleRecord → Given
-given_in second e k r = given_by e k (reading_in second r) (reading_in (not second) r) r.acknowledged
+abbrev pub given_in : Side → MachineData → ℕ → CycleRecord → Given
+given_in side e k r = given_by e k (readings_in side r).0 (readings_in side r).1 r.acknowledged
 
-module _ (second : Bool) (d e : MachineData) where
+module _ (side : Side) (d e : MachineData) where
   -- its state after some records, and its words: the other's k rises in every cycle
   unfoldable pub last_alone : State → ℕ → List CycleRecord → State
   last_alone s k [] = s
-  last_alone s k (r ∷ rs) = last_alone (next d s (given_in second e k r)) (next_k e.count k) rs
+  last_alone s k (r ∷ rs) = last_alone (next d s (given_in side e k r)) (next_k e.count k) rs
 
   unfoldable pub words_alone : State → ℕ → List CycleRecord → List ℕ
   words_alone s k [] = []
-  words_alone s k (r ∷ rs) = word d s (given_in second e k r) ∷ words_alone (next d s (given_in second e k r)) (next_k e.count k) rs
+  words_alone s k (r ∷ rs) = word d s (given_in side e k r) ∷ words_alone (next d s (given_in side e k r)) (next_k e.count k) rs
 
 -- words put at every third place, from one on
 unfoldable pub thirds : ℕ → List ℕ → List ℕ → List ℕ

@@ -1,5 +1,5 @@
 -- The run of a log: document 01, "An accepted log runs the two channels given with it".
-use Rattle.std.specs.Prelude.{ℕ, ◌*◌, Bool, cond, List, [], ◌∷◌, ◌++◌, length, drop, ltb}
+use Rattle.std.specs.Prelude.{ℕ, ◌*◌, Bool, cond, List, [], ◌∷◌, ◌++◌, length, drop, ltb, Result, Ok, Err}
 use Rattle.machine_data.specs.declared.MachineData.{MachineData}
 use Rattle.inputs.specs.declared.Reading.{Reading}
 use Rattle.seven.specs.declared.CycleRecord.{CycleRecord}
@@ -13,8 +13,6 @@ use Rattle.channel.specs.Word.{word}
 use Rattle.device.specs.Device.{device_of}
 use Rattle.refusal.specs.declared.Refusal.{Refusal}
 use Rattle.refusal.specs.declared.Refusal.TheVariants.{WrongLog, ShortOutput}
-use Rattle.logs.specs.declared.LogAnswer.{LogAnswer}
-use Rattle.logs.specs.declared.LogAnswer.TheVariants.{Accepted, Refused}
 
 -- what a record gives a channel: its own reading, and the other's report, "datum k by the data and k of the channel given", and its head (W1)
 abbrev pub given_by : MachineData → ℕ → Reading → Reading → Bool → Given
@@ -67,14 +65,14 @@ both_of a b = record { a = a.state; b = b.state }
 
 -- what a log leaves: the answer, both channels, and the output
 pub record Ran : Type 0 where
-  pub answer : LogAnswer
+  pub answer : Result ℕ Refusal
   pub a : Channel
   pub b : Channel
   pub out : List ℕ
 
 -- "output, channels" are left as they were
 abbrev pub refusing : Channel → Channel → List ℕ → Refusal → Ran
-refusing a b out why = record { answer = Refused why; a = a; b = b; out = out }
+refusing a b out why = record { answer = Err why; a = a; b = b; out = out }
 
 -- "from its front on; the output words behind them are not touched. The number of cycles and both channels come back"; W7: what is pending is dropped where
 -- there is a cycle
@@ -82,7 +80,7 @@ abbrev pub running : Channel → Channel → List ℕ → List CycleRecord → R
 running a b out rs =
     let last = last_of a.list b.list (both_of a b) rs in
     record {
-      answer = Accepted (length rs);
+      answer = Ok (length rs);
       a = after_cycles (length rs) a last.a;
       b = after_cycles (length rs) b last.b;
       out = lines_of a.list b.list (both_of a b) rs ++ drop (3 * length rs) out;

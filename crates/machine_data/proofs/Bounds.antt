@@ -1,8 +1,8 @@
 -- Bounds of data from their ranges: one computed test over the table's rows gives the bounds of each run of data. Assumes nothing.
-use mathlib.Core.Path.{◌≡◌, refl}
+use mathlib.Core.Path.{◌≡◌, refl, subst}
 use mathlib.Core.Bool.{Bool, true, false, ◌&&◌}
 use mathlib.Core.List.{List}
-use Prim.Native.Nat.{ℕ, zero, suc, ◌+◌, ◌≤◌, ◌<◌}
+use Prim.Native.Nat.{ℕ, zero, suc, ◌+◌, ◌-◌, ◌≤◌, ◌<◌}
 use native.Mathlib.Nat.{zero-add, le_trans, le_of_suc-le-suc, not-suc-le-zero}
 use native.Mathlib.Omega.{arith}
 use borrow.Author.Tests.{ltb-true}
@@ -53,6 +53,12 @@ module _ (d : List ℤ) where
   -- T
   pub cycle : (1 ≤ number_of d 0) × (number_of d 0 ≤ 25)
   cycle = between 0 1 1 25 0 tt (lit< tt) (omega arith)
+
+  -- a gear's numerator or denominator
+  pub ratio_most : (k : ℕ) → 51 ≤ k → k < 67 → number_of d k ≤ 1000
+  ratio_most k low high =
+      let at : 51 + (k - 51) ≡ k = omega arith in
+      subst (λ (j : ℕ). number_of d j ≤ 1000) at (between 51 16 1 1000 (k - 51) tt (omega arith) (omega arith)).1
 
   -- every datum; there is none past the last
   pub number_most : (k : ℕ) → number_of d k ≤ 100_000_000

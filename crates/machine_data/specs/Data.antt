@@ -6,11 +6,16 @@ use Rattle.std.specs.Int.Signed.{lt_z}
 use Rattle.bits.specs.Bits.{bit_of}
 use Rattle.ranges.specs.Table.{data_count, low_of, high_of, allowed}
 use Rattle.machine_data.specs.declared.MachineData.{MachineData}
+use Rattle.machine_data.specs.declared.Lent.{Lent}
 use Rattle.machine_data.specs.declared.Ratio.{Ratio}
 
 -- a list whose values and count are lent apart
 abbrev pub lent : List ℤ → ℕ → MachineData
 lent values count = record { values = values; count = count }
+
+-- the list that is lent
+abbrev pub list_of : Lent → MachineData
+list_of l = lent l.values.now l.count
 
 -- z, or the nearer end
 unfoldable pub nearest : ℤ → ℤ → ℤ → ℤ

@@ -1,4 +1,4 @@
-// The bits of datum 1: the functions of a channel.
+// The bits of datum 1: the functions of a channel. Numbers and no enum: the paper knows a function by its bit alone.
 pub const SBH_SG: u32 = 0;
 
 pub const SE: u32 = 1;

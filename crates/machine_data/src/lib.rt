@@ -4,9 +4,9 @@
 pub mod functions;
 pub mod numbers;
 
-ghost use Rattle.std.specs.Prelude.{◌≡◌, ◌<◌, ◌+◌, ◌%◌};
+ghost use Rattle.std.specs.Prelude.{◌≡◌, ◌<◌, ◌≤◌, ◌+◌, ◌%◌, pos};
 ghost use Rattle.ranges.specs.Table.{data_count, low_of, high_of};
-ghost use Rattle.machine_data.specs.Data.{datum_of, size, number_of, ratio_of, entry_of, function_of};
+ghost use Rattle.machine_data.specs.Data.{datum_of, size, number_of, ratio_of, entry_of, function_of, list_of};
 
 use ranges::DATA;
 
@@ -14,10 +14,29 @@ use ranges::DATA;
 pub type Values = [i32; DATA];
 
 // The data of an accepted list, and how many it has; the places behind them are 0. A count of 0 where there is no list.
+// An array with its count and no shorter slice: a datum that the list lacks is read as the 0 behind it.
 #[derive(Clone, Copy)]
 pub struct MachineData {
     pub values: Values,
     pub count: usize,
+}
+
+// A list that is lent: its data where they stand, with no copy of them, and how many it has.
+#[derive(Clone, Copy)]
+pub struct Lent<'a> {
+    pub values: &'a Values,
+    pub count: usize,
+}
+
+impl MachineData {
+    pub fn lend(&self) -> Lent<'_>
+        ensures { list_of result ≡ self.now }
+    {
+        Lent {
+            values: &self.values,
+            count: self.count,
+        }
+    }
 }
 
 // A gear stage's ratio of load to step.
@@ -35,24 +54,18 @@ fn read(values: &Values, k: usize, least: i32, most: i32) -> i32
     requires most_value { most ≡ high_of k }
     ensures { result ≡ datum_of values.now k }
 {
-    let z = values[k];
-    if z < least {
-        return least;
-    }
-    if most < z {
-        return most;
-    }
-    z
+    values[k].clamp(least, most)
 }
 
 // A number, 0 below 0: every datum but the positions is at least 0.
 fn size(z: i32) -> u64
     ensures { result ≡ size z }
 {
-    if z < 0 { 0 } else { z as u64 }
+    z.max(0) as u64
 }
 
 // Datum k, read within its range.
+#[tactic(auto, unfolding(crate::specs::Data::datum_of))]
 pub fn datum(values: &Values, k: usize) -> i32
     ensures { result ≡ datum_of values.now k }
 {
@@ -64,6 +77,7 @@ pub fn datum(values: &Values, k: usize) -> i32
 }
 
 // Datum k as a number.
+#[tactic(auto, unfolding(crate::specs::Data::number_of))]
 pub fn number(values: &Values, k: usize) -> u64
     ensures { result ≡ number_of values.now k }
 {
@@ -71,41 +85,53 @@ pub fn number(values: &Values, k: usize) -> u64
 }
 
 // Datum k as a count of cycles, in a type that keeps a channel's state small.
+#[tactic(auto, using(crate::proofs::Bounds::number_most))]
 pub fn cycles(values: &Values, k: usize) -> u32
     ensures { result ≡ number_of values.now k }
 {
     number(values, k) as u32
 }
 
+// Datum n, as a number, of a run of so many data that all lie from 1 to the same end.
+fn number_in(values: &Values, first: usize, many: u8, most: i32, n: u8) -> u64
+    requires some { 0 < many }
+    requires within { first + many ≤ data_count }
+    requires least_value { pos 1 ≡ low_of (first + n % many) }
+    requires most_value { most ≡ high_of (first + n % many) }
+    ensures { result ≡ number_of values.now (first + n % many) }
+{
+    size(read(values, first + (n % many) as usize, 1, most))
+}
+
 // The limit of SG n + 1.
 pub fn sg_limit(values: &Values, n: u8) -> u64
     ensures { result ≡ number_of values.now (3 + n % 4) }
 {
-    size(read(values, numbers::SG_LIMIT + ((n % 4) as usize), 1, 1000000))
+    number_in(values, numbers::SG_LIMIT, 4, 1000000, n)
 }
 
 // The stop of SG n + 1, by its rank's number.
 pub fn sg_stop(values: &Values, n: u8) -> u64
     ensures { result ≡ number_of values.now (7 + n % 4) }
 {
-    size(read(values, numbers::SG_STOP + ((n % 4) as usize), 1, 5))
+    number_in(values, numbers::SG_STOP, 4, 5, n)
 }
 
 // The percent of override n.
 pub fn percent(values: &Values, n: u8) -> u64
     ensures { result ≡ number_of values.now (35 + n % 16) }
 {
-    size(read(values, numbers::OVERRIDE + ((n % 16) as usize), 1, 100))
+    number_in(values, numbers::OVERRIDE, 16, 100, n)
 }
 
 // The ratio of gear g.
+#[tactic(auto, using(crate::proofs::Bounds::ratio_most), unfolding(crate::specs::Data::ratio_of))]
 pub fn gear_ratio(values: &Values, g: u8) -> Ratio
     ensures { result ≡ ratio_of values.now g }
 {
-    let stage = (g % 8) as usize;
     Ratio {
-        numerator: size(read(values, numbers::NUMERATOR + stage, 1, 1000)) as u16,
-        denominator: size(read(values, numbers::DENOMINATOR + stage, 1, 1000)) as u16,
+        numerator: number_in(values, numbers::NUMERATOR, 8, 1000, g) as u16,
+        denominator: number_in(values, numbers::DENOMINATOR, 8, 1000, g) as u16,
     }
 }
 
@@ -124,6 +150,7 @@ pub fn entry(values: &Values, k: usize) -> i32
 }
 
 // Whether function n is on.
+#[tactic(auto, using(crate::proofs::Bounds::number_most), unfolding(crate::specs::Data::function_of))]
 pub fn function(values: &Values, n: u32) -> bool
     ensures { result ≡ function_of values.now n }
 {

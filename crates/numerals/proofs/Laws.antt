@@ -1,9 +1,10 @@
 -- What the digits of a number are good for, over the base: nothing is lost, and no zero leads. Assumes nothing.
-use mathlib.Core.Path.{◌≡◌, refl, ap, subst, ◌∙◌}
+use mathlib.Core.Path.{◌≡◌, refl, sym, ap, subst, ◌∙◌}
 use mathlib.Core.Bool.{Bool, true, false, cond}
 use mathlib.Core.List.{List, [], ◌∷◌, ◌++◌}
-use Prim.Native.Nat.{ℕ, zero, suc, ◌+◌, ◌-◌, ◌*◌, ◌/◌, ◌%◌, ◌^◌, ◌≤◌, ◌<◌}
-use native.Mathlib.Nat.{div-lt_iff_lt-mul, le-div_iff_mul-le, div-add-mod', mod-lt, pow-zero, pow-suc, one-mul, one-le-pow, mul-le-mul_right, le_trans}
+use Prim.Native.Nat.{ℕ, zero, suc, ◌+◌, ◌-◌, ◌*◌, ◌/◌, ◌%◌, ◌^◌, ◌≤◌, ◌<◌, max}
+use native.Mathlib.Nat.{div-lt_iff_lt-mul, le-div_iff_mul-le, div-add-mod', mod-lt, pow-zero, pow-suc, one-mul, one-le-pow, pow-le-pow_right, mul-le-mul_right, mul_comm, le_trans}
+use Rattle.std.proofs.lemmas.Nat.{pow-add}
 use native.Mathlib.Omega.{arith}
 use lib.ListN.{length, length-append}
 use lib.Dec.{ltb}
@@ -41,6 +42,17 @@ module _ (base : ℕ) (big : 1 < base) where
       go true e less = absurd (none (mul-le-mul_right base (one-le-pow k base (omega arith))) (ltb-true n base e))
       go false e less = omega (arith, width_long base big n (ltb-false n base e), less)
 
+  -- a number between two powers has as many digits as the upper one's exponent, 0 as many as 1
+  pub width_between : (k n : ℕ) → base ^ k ≤ max n 1 → max n 1 < base * base ^ k → width base n ≡ k + 1
+  width_between zero zero least most = width_short base big 0 (omega arith)
+  width_between (suc k) zero least most = absurd (none (mul-le-mul_right base (one-le-pow k base (omega arith))))
+    where
+      none : 1 * base ≤ base ^ k * base → ⊥
+      none h = omega (arith, h, least, pow-suc base k)
+  width_between k (suc n) least most =
+      let above : suc n < base ^ suc k = omega (arith, most, pow-suc base k, mul_comm base (base ^ k)) in
+      omega (arith, width_least k (suc n) (omega (arith, least)), width_most k (suc n) above)
+
   -- the number that digits stand for, and a digit's own
   abbrev figure : ℕ → ℕ
   figure c = cond (ltb c 58) (c - 48) (c - 87)
@@ -70,3 +82,16 @@ module _ (base : ℕ) (big : 1 < base) where
       ∙ ap (λ (x : ℕ). x * base + figure (glyph (n % base))) (read_back b many (n / base) ((div-lt_iff_lt-mul (omega arith)).1 (subst (λ (x : ℕ). n < x) (pow-suc base many) h)))
       ∙ ap (λ (x : ℕ). n / base * base + x) (figure_glyph (n % base) (le_trans (mod-lt n (omega arith)) b))
       ∙ div-add-mod' n base
+
+-- four binary digits are one of base 16
+hexes : (k : ℕ) → 16 ^ k ≡ 2 ^ (4 * k)
+hexes zero = refl
+hexes (suc k) = pow-suc 16 k ∙ ap (λ (x : ℕ). x * 16) (hexes k) ∙ sym (pow-add 2 (4 * k) 4) ∙ ap (λ (m : ℕ). 2 ^ m) {x = 4 * k + 4} {y = 4 * suc k} (omega arith)
+
+pub width_hex : (j n : ℕ) → 2 ^ j ≤ max n 1 → max n 1 < 2 * 2 ^ j → width 16 n ≡ j / 4 + 1
+width_hex j n least most =
+    let low : 2 ^ (4 * (j / 4)) ≤ 2 ^ j = pow-le-pow_right (omega arith) (omega arith) in
+    let high : 2 ^ suc j ≤ 2 ^ (4 * suc (j / 4)) = pow-le-pow_right (omega arith) (omega arith) in
+    width_between 16 (omega arith) (j / 4) n
+    (omega (arith, hexes (j / 4)))
+    (omega (arith, hexes (suc (j / 4)), pow-suc 2 j, pow-suc 16 (j / 4)))

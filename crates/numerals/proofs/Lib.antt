@@ -1,5 +1,5 @@
 pub mod Widths
 pub mod Laws
 pub mod Splices
-pub mod Placed
 pub mod Room
+pub mod Placed

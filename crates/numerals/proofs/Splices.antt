@@ -1,7 +1,8 @@
 -- Texts put into a buffer, one behind the other. Assumes nothing.
 use mathlib.Core.Path.{◌≡◌, sym, ap, ◌∙◌}
 use mathlib.Core.List.{List, [], ◌∷◌, ◌++◌, append_assoc}
-use Prim.Native.Nat.{ℕ, suc, ◌+◌, ◌≤◌, ◌<◌}
+use Prim.Native.Nat.{ℕ, suc, ◌+◌, ◌-◌, ◌≤◌, ◌<◌}
+use borrow.Rule.Slice.PartMut.{put_mid}
 use native.Mathlib.Omega.{arith}
 use lib.ListN.{length, take, drop, set, length-append, length-drop}
 use lib.Seq.{take_at, drop_at, length-take-le, set_split, drop-drop}
@@ -35,6 +36,15 @@ module _ (at : ℕ) (xs l : List ℕ) (room : at + length xs ≤ length l) where
 pub written_none : (at : ℕ) (xs l : List ℕ) → length l < at + length xs → written at xs l ≡ l
 unfolding written
 written_none at xs l h = simp (lt-leb (at + length xs) (length l) h)
+
+-- a part of a buffer, and a text written over it
+pub part_size : {A : Type 0} (at many : ℕ) (out : List A) → at + many ≤ length out → length (take (at + many - at) (drop at out)) ≡ many
+part_size at many out room = length-take-le (at + many - at) (drop at out) (omega (arith, length-drop at out)) ∙ omega arith
+
+pub part_put : (at many : ℕ) (text out : List ℕ) {part : List ℕ} → part ≡ text → length text ≡ many → put_mid at (at + many - at) out part ≡ splice at text out
+part_put at many text out {part} is size =
+    let far : at + (at + many - at) ≡ at + length text = omega (arith, size) in
+    (λ k. take at out ++ (is k ++ drop-drop (at + many - at) at out k)) ∙ ap (λ (n : ℕ). take at out ++ (text ++ drop n out)) far
 
 -- a text right behind another is one text
 pub splice_behind : (at : ℕ) (xs ys l : List ℕ) → at + length (xs ++ ys) ≤ length l → splice (at + length xs) ys (splice at xs l) ≡ splice at (xs ++ ys) l

@@ -1,18 +1,12 @@
 -- A number's width, one digit at a time, over the base. Assumes nothing.
 use mathlib.Core.Path.{◌≡◌, refl, ap}
 use mathlib.Core.Bool.{Bool, true, false, cond}
-use Prim.Native.Nat.{ℕ, zero, suc, ◌+◌, ◌/◌, ◌≤◌, ◌<◌}
+use Prim.Native.Nat.{ℕ, zero, suc, ◌/◌, ◌≤◌, ◌<◌}
 use native.Mathlib.Nat.{div-lt_self}
 use native.Mathlib.Omega.{arith}
 use lib.Dec.{ltb}
 use borrow.Author.Tests.{lt-ltb, le-ltb, ltb-false}
-use Rattle.numerals.specs.declared.Base.{Base}
-use Rattle.numerals.specs.declared.Base.TheVariants.{Decimal, Hexadecimal}
-use Rattle.numerals.specs.Numerals.{radix, width_within, width}
-
-pub more_than_one : (b : Base) → 1 < radix b
-more_than_one Decimal = omega arith
-more_than_one Hexadecimal = omega arith
+use Rattle.numerals.specs.Numerals.{width_within, width}
 
 module _ (base : ℕ) (big : 1 < base) where
   -- a quotient fits into one unit less
@@ -44,10 +38,3 @@ module _ (base : ℕ) (big : 1 < base) where
       none : base ≤ 0 → ⊥
       none y = omega (arith, big)
   width_long (suc m) h = simp (le-ltb (suc m) base h) (ap suc (enough m (suc m / base) (suc m / base) (smaller (suc m) m h (omega arith)) (omega arith)))
-
-  -- a digit counted is one less to count
-  pub counted : (many rest rest' n : ℕ) → base ≤ rest → rest' ≡ rest / base → many + width base rest ≡ suc (width base n) → many + rest ≤ suc n →
-      (rest' < rest) × (many + 1 + width base rest' ≡ suc (width base n)) × (many + 1 + rest' ≤ suc n)
-  counted many rest rest' n h e w below =
-      let less : rest / base < rest = div-lt_self (omega arith) big in
-      (omega arith, omega (arith, width_long rest h, ap (width base) e), omega arith)

@@ -1,4 +1,5 @@
 -- Bit 21 is 1 where W3 says so, and only there: by the law of the signal over numbered cycles. Assumes nothing.
+use Rattle.std.specs.Prelude.{Option, ℤ, None}
 use Prim.Native.Nat.{ℕ, zero, suc, ◌≤◌}
 use mathlib.Core.Bool.{Bool, true, false, cond, ◌&&◌}
 use mathlib.Core.List.{List}
@@ -13,8 +14,6 @@ use Rattle.bits.specs.Bits.{bit_of}
 use Rattle.machine_data.specs.declared.MachineData.{MachineData}
 use Rattle.machine_data.specs.Data.{function_of}
 use Rattle.machine_data.proofs.Stands.{number_high}
-use Rattle.distance.specs.declared.Previous.{Previous}
-use Rattle.distance.specs.declared.Previous.TheVariants.{Absent}
 use Rattle.runs.specs.Run.{run_next}
 use Rattle.runs.specs.Running.{Running}
 use Rattle.runs.proofs.Running.{above_running, running_above}
@@ -45,7 +44,7 @@ part f false x y = refl
 
 -- ---- numbered cycles: what a cycle finds of the position before it and of n<nx is what the cycle before left, in the first one none and a fresh signal
 
-module _ (L : ℕ → MachineData) (S : ℕ → State) (G : ℕ → Given) (none : (S 0).previous ≡ Absent) (off : (S 0).kept.nx ≡ record { run = 0; on = false })
+module _ (L : ℕ → MachineData) (S : ℕ → State) (G : ℕ → Given) (none : (S 0).previous ≡ None) (off : (S 0).kept.nx ≡ record { run = 0; on = false })
     (previous-goes : (n : ℕ) → (S (suc n)).previous ≡ (next (L n) (S n) (G n)).previous)
     (signal-goes : (n : ℕ) → (S (suc n)).kept.nx ≡ (next (L n) (S n) (G n)).kept.nx) where
   abbrev used : ℕ → Bool
@@ -67,7 +66,7 @@ module _ (L : ℕ → MachineData) (S : ℕ → State) (G : ℕ → Given) (none
   signal_at n =
       signal-goes n
       ∙ part (λ (x : State). x.kept.nx) (used n) _ _
-      ∙ ap (λ (p : Previous). cond (used n) (signal_next (L n).values (step_of (L n).values p (G n).reading) (S n).kept.nx) (S n).kept.nx) (previous_at_lem n)
+      ∙ ap (λ (p : Option ℤ). cond (used n) (signal_next (L n).values (step_of (L n).values p (G n).reading) (S n).kept.nx) (S n).kept.nx) (previous_at_lem n)
 
   run_at : (n : ℕ) → run (suc n) ≡ cond (used n) (run_next (below_at L G n) (run n)) (run n)
   unfolding below_run

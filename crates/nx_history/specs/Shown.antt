@@ -1,18 +1,15 @@
 -- When bit 21 of the channel word, n<nx, is 1: W3, over every list of calls of demand 3, W7's asks and commits among them, and with no state kept.
 -- proofs/Shown.antt shows it.
-use Rattle.std.specs.Prelude.{ℕ, zero, suc, ◌<◌, Bool, cond, List, ◌↔◌, ◌≡◌, T, length}
+use Rattle.std.specs.Prelude.{ℕ, zero, suc, ◌<◌, Bool, cond, List, ◌↔◌, ◌≡◌, T, length, Option, ℤ, None, Some, Ok}
 use Rattle.bits.specs.Bits.{bit_of}
 use Rattle.machine_data.specs.declared.MachineData.{MachineData}
 use Rattle.machine_data.specs.Data.{number_of, function_of}
-use Rattle.distance.specs.declared.Previous.{Previous}
-use Rattle.distance.specs.declared.Previous.TheVariants.{Absent, At}
 use Rattle.speed.specs.declared.Step.{Step}
 use Rattle.speed.specs.Speed.{slower}
 use Rattle.nx_signal.specs.Signal.{released}
 use Rattle.runs.specs.Since.{SetSince}
 use Rattle.state.specs.declared.Given.{Given}
 use Rattle.judge.specs.Causes.{step_of}
-use Rattle.list.specs.declared.ListAnswer.TheVariants.{Accepted}
 use Rattle.list.specs.Reading.{read_list}
 use Rattle.channel.specs.Cycle.{fresh_channel}
 use Rattle.demand_3.specs.Calls.{Call, Words, Answers}
@@ -23,9 +20,9 @@ use Rattle.demand_3.specs.Demand3.{words_in}
 -- of numbered cycles, from 0: `L n` is the list in force in cycle n, `G n` what it is given
 module _ (L : ℕ → MachineData) (G : ℕ → Given) where
   -- the position before cycle n: none in the first cycle and behind an unusable one
-  abbrev pub previous_at : ℕ → Previous
-  previous_at zero = Absent
-  previous_at (suc n) = cond (usable_in L G n) (At (G n).reading.position) Absent
+  abbrev pub previous_at : ℕ → Option ℤ
+  previous_at zero = None
+  previous_at (suc n) = cond (usable_in L G n) (Some (G n).reading.position) None
 
   abbrev pub step_at : ℕ → Step
   step_at n = step_of (L n).values (previous_at n) (G n).reading
@@ -55,5 +52,5 @@ ShownIn m calls given =
 
 abbrev pub ShownNx : Type 0
 ShownNx =
-    (s : List ℕ) (size : ℕ) → (read_list s).answer ≡ Accepted size →
+    (s : List ℕ) (size : ℕ) → (read_list s).answer ≡ Ok size →
     (calls : List Call) (given : List Words) → Answers (fresh_channel (read_list s).list) calls given → ShownIn (read_list s).list calls given

@@ -15,6 +15,7 @@ pub struct Signal {
 }
 
 // Whether the speed is nx plus hysteresis or more.
+#[tactic(auto, using(machine_data::proofs::Bounds::number_most), unfolding(crate::specs::Signal::released))]
 fn released(values: &Values, step: Step) -> bool
     ensures { result ≡ released values.now step }
 {
@@ -46,6 +47,7 @@ impl Signal {
     }
 
     // The signal after a usable cycle.
+    #[tactic(auto, using(crate::proofs::Cases::below_is, crate::proofs::Cases::above_is))]
     pub fn next(self, values: &Values, step: Step) -> Signal
         ensures { result ≡ signal_next values.now step self }
     {

@@ -1,4 +1,5 @@
--- What is told, in a cycle that would be usable and in one that would not, and by the answer of the list. Assumes nothing.
+-- What is told, in a cycle that would be usable and in one that would not. Assumes nothing.
+use Rattle.std.specs.Prelude.{Result, Ok, Err}
 use Prim.Native.Nat.{ℕ}
 use mathlib.Core.Path.{◌≡◌, sym, ap, ◌∙◌}
 use mathlib.Core.List.{[]}
@@ -12,8 +13,6 @@ use Rattle.codes.specs.Codes.{causes_of}
 use Rattle.codes.specs.declared.Causes.{Causes}
 use Rattle.refusal.specs.declared.Refusal.{Refusal}
 use Rattle.list.specs.declared.ListRead.{ListRead}
-use Rattle.list.specs.declared.ListAnswer.{ListAnswer}
-use Rattle.list.specs.declared.ListAnswer.TheVariants.{Accepted, Refused}
 use Rattle.state.specs.declared.State.{State}
 use Rattle.judge.specs.Causes.{rows_of, usable_rows}
 use Rattle.commit.specs.Commit.{committed}
@@ -27,11 +26,3 @@ module _ (m : MachineData) (s : State) (r : Reading) (o : Report) where
   pub unusable_told : usable_of m r ≡ false → causes_of unusable_table ≡ told_of m s r o
   unfolding rows_of fresh_rows
   unusable_told u = simp u
-
--- what an ask tells, by the answer
-module _ (read : ListRead) (s : State) (r : Reading) (o : Report) where
-  pub accepted_told : {n : ℕ} {told : Causes} → read.answer ≡ Accepted n → told ≡ told_of read.list s r o → told ≡ telling read.answer (told_of read.list s r o)
-  accepted_told {n} e q = q ∙ sym (ap (λ (x : ListAnswer). telling x (told_of read.list s r o)) e)
-
-  pub refused_told : {why : Refusal} {told : Causes} → read.answer ≡ Refused why → told ≡ causes_of [] → told ≡ telling read.answer (told_of read.list s r o)
-  refused_told e q = q ∙ sym (ap (λ (x : ListAnswer). telling x (told_of read.list s r o)) e)

@@ -1,5 +1,6 @@
 -- Asking about a list and committing it: W7.
-use Rattle.std.specs.Prelude.{ℕ, false, cond, List, [], ◌∷◌, eqb}
+use Rattle.refusal.specs.declared.Refusal.{Refusal}
+use Rattle.std.specs.Prelude.{ℕ, false, cond, List, [], ◌∷◌, eqb, Ok, Err, Result}
 use Rattle.refusal.specs.declared.Refusal.TheVariants.{NothingPending}
 use Rattle.machine_data.specs.declared.MachineData.{MachineData}
 use Rattle.inputs.specs.declared.Reading.{Reading}
@@ -9,8 +10,6 @@ use Rattle.causes.specs.Causes.{cause, is_fresh}
 use Rattle.codes.specs.declared.Causes.{Causes}
 use Rattle.codes.specs.Codes.{causes_of}
 use Rattle.list.specs.declared.ListRead.{ListRead}
-use Rattle.list.specs.declared.ListAnswer.{ListAnswer}
-use Rattle.list.specs.declared.ListAnswer.TheVariants as L
 use Rattle.list.specs.Reading.{read_list}
 use Rattle.state.specs.declared.State.{State}
 use Rattle.state.specs.declared.Given.{Given}
@@ -20,7 +19,6 @@ use Rattle.channel.specs.declared.Channel.{Channel}
 use Rattle.channel.specs.Cycle.{with_list}
 use Rattle.pending.specs.declared.Asked.{Asked}
 use Rattle.pending.specs.declared.CommitRun.{CommitRun}
-use Rattle.pending.specs.declared.CommitAnswer.TheVariants as C
 
 -- "A commit takes the pending list": a channel c behind the commit of list m
 abbrev pub taking : Channel → MachineData → Channel
@@ -43,16 +41,15 @@ abbrev pub told_of : MachineData → State → Reading → Report → Causes
 told_of m s r o = causes_of (fresh_rows (rows_of m (committed m s) (as_if_given r o)))
 
 -- "the channel tells the refusal, or the fresh causes"
-abbrev pub telling : ListAnswer → Causes → Causes
-telling (L.Accepted n) causes = causes
-telling (L.Refused why) causes = causes_of []
+abbrev pub telling : Result ℕ Refusal → Causes → Result (ℕ × Causes) Refusal
+telling (Ok n) causes = Ok (n, causes)
+telling (Err why) causes = Err why
 
 -- "A list is first asked about: .. and keeps the list pending; a refused list leaves none pending, all else unaltered": a refused list has no data
 abbrev pub asked_by : Channel → ListRead → Reading → Report → Asked
 asked_by c read r o =
     record {
-      answer = read.answer;
-      causes = telling read.answer (told_of read.list c.state r o);
+      answer = telling read.answer (told_of read.list c.state r o);
       channel = record { list = c.list; state = c.state; pending = read.list };
     }
 
@@ -62,5 +59,5 @@ asked_of c words r o = asked_by c (read_list words) r o
 -- "8, place 0: commit with nothing pending; the channel is unaltered"; else it is taken
 abbrev pub commit_of : Channel → CommitRun
 commit_of c =
-    cond (eqb c.pending.count 0) (record { answer = C.Refused NothingPending; channel = c })
-    (record { answer = C.Taken; channel = taking c c.pending })
+    cond (eqb c.pending.count 0) (record { answer = Err NothingPending; channel = c })
+    (record { answer = Ok tt; channel = taking c c.pending })

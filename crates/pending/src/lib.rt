@@ -1,39 +1,30 @@
 // A list for a running channel: asked about, then committed.
 #![tactic(auto)]
 
-ghost use Rattle.std.specs.Prelude.{◌≡◌, []};
-ghost use Rattle.machine_data.specs.Data.{lent};
-ghost use Rattle.codes.specs.Codes.{causes_of};
+ghost use Rattle.std.specs.Prelude.{◌≡◌};
+ghost use Rattle.machine_data.specs.Data.{list_of};
 ghost use Rattle.pending.specs.Pending.{only_fresh, fresh_rows, told_of, taking, asked_of, commit_of};
 
-use causes::{Cause, ROWS, Rows};
+use causes::{Cause, Rows};
 use channel::Channel;
 use codes::{CODES, Causes};
 use inputs::Reading;
-use list::ListAnswer;
-use machine_data::{MachineData, Values};
+use machine_data::{Lent, MachineData};
 use refusal::Refusal;
 use report::Report;
 use state::{Given, State};
 
-// What an ask answers: how many words the list has and the causes told, or the refusal and none; and the channel that it leaves.
+// What an ask answers: how many words the list has and the causes told, or the refusal; and the channel that it leaves.
 #[derive(Clone, Copy)]
 pub struct Asked {
-    pub answer: ListAnswer,
-    pub causes: Causes,
+    pub answer: Result<(usize, Causes), Refusal>,
     pub channel: Channel,
-}
-
-#[derive(Clone, Copy)]
-pub enum CommitAnswer {
-    Taken,
-    Refused(Refusal),
 }
 
 // What a commit answers, and the channel that it leaves.
 #[derive(Clone, Copy)]
 pub struct CommitRun {
-    pub answer: CommitAnswer,
+    pub answer: Result<(), Refusal>,
     pub channel: Channel,
 }
 
@@ -41,11 +32,9 @@ pub struct CommitRun {
 fn only_fresh(row: Cause) -> Cause
     ensures { result ≡ only_fresh row }
 {
-    let rank = row.rank;
     Cause {
-        code: row.code,
         stands: row.fresh(),
-        rank,
+        ..row
     }
 }
 
@@ -54,45 +43,31 @@ fn fresh_rows(rows: Rows) -> Rows
     ensures { result ≡ fresh_rows rows }
 {
     let mut fresh = rows;
-    let mut i = 0usize;
-    while i < ROWS {
-        let row = fresh[i];
-        fresh[i] = only_fresh(row);
-        i += 1;
+    for row in &mut fresh {
+        *row = only_fresh(*row);
     }
     fresh
 }
 
 // What an ask tells of a list, beside the state of the channel that is asked: the fresh causes of the cycle straight behind its
 // commit.
-pub fn told(values: &Values, count: usize, state: State, reading: Reading, report: Report) -> Causes
-    ensures { result ≡ told_of (lent values.now count) state reading report }
+pub fn told(list: Lent, state: State, reading: Reading, report: Report) -> Causes
+    ensures { result ≡ told_of (list_of list.entry) state reading report }
 {
-    let after = commit::committed(values, count, state);
+    let after = commit::committed(list, state);
     let given = Given {
         reading,
         acknowledged: false,
         report,
     };
-    if usable_inputs::usable(values, count, reading) {
-        let findings = judge::judge(values, count, after, given);
-        let rows = findings.rows;
+    if usable_inputs::usable(list, reading) {
+        let findings = judge::judge(list, after, given);
         let mut codes = [0u8; CODES];
-        let listed = codes::list_causes(fresh_rows(rows), &mut codes);
+        let listed = codes::list_causes(fresh_rows(findings.rows), &mut codes);
         let count = listed.count;
         Causes { codes, count }
     } else {
         Causes::unusable()
-    }
-}
-
-// A refused list has no causes to tell.
-fn no_causes() -> Causes
-    ensures { result ≡ causes_of [] }
-{
-    Causes {
-        codes: [0u8; CODES],
-        count: 0,
     }
 }
 
@@ -101,21 +76,18 @@ pub fn ask(channel: Channel, words: &[u32], reading: Reading, report: Report) ->
     ensures { result ≡ asked_of channel words.now reading report }
 {
     let read = list::read_list(words);
-    let answer = read.answer;
-    let pending = read.list;
-    let list = channel.list;
-    let state = channel.state;
-    let causes = match answer {
-        ListAnswer::Accepted(_) => told(&pending.values, pending.count, state, reading, report),
-        ListAnswer::Refused(_) => no_causes(),
+    let answer = match read.answer {
+        Ok(used) => {
+            let causes = told(read.list.lend(), channel.state, reading, report);
+            Ok((used, causes))
+        }
+        Err(why) => Err(why),
     };
     Asked {
         answer,
-        causes,
         channel: Channel {
-            list,
-            state,
-            pending,
+            pending: read.list,
+            ..channel
         },
     }
 }
@@ -127,14 +99,13 @@ pub fn commit(channel: Channel) -> CommitRun
     let list = channel.pending;
     if list.count == 0 {
         return CommitRun {
-            answer: CommitAnswer::Refused(Refusal::NothingPending),
+            answer: Err(Refusal::NothingPending),
             channel,
         };
     }
-    let state = channel.state;
-    let after = commit::committed(&list.values, list.count, state);
+    let after = commit::committed(list.lend(), channel.state);
     CommitRun {
-        answer: CommitAnswer::Taken,
+        answer: Ok(()),
         channel: channel::with_list(list, after),
     }
 }

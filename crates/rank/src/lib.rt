@@ -6,7 +6,8 @@ ghost use Rattle.rank.specs.Rank.{rank_number, rank_from, stronger_of, time_of};
 
 use machine_data::{Values, numbers};
 
-#[derive(Clone, Copy)]
+// The order is that of strength.
+#[derive(Clone, Copy, PartialEq, Eq, PartialOrd, Ord)]
 pub enum Rank {
     None,
     E,
@@ -16,7 +17,39 @@ pub enum Rank {
     A,
 }
 
+// The rank that a datum names; a number past 5, which no datum has, is read as A.
+impl From<u64> for Rank {
+    ghost from_gives = { λ n r. r ≡ rank_from n };
+
+    fn from(n: u64) -> Rank {
+        match n {
+            0 => Rank::None,
+            1 => Rank::E,
+            2 => Rank::D,
+            3 => Rank::C,
+            4 => Rank::B,
+            _ => Rank::A,
+        }
+    }
+}
+
+impl From<Rank> for u8 {
+    ghost from_gives = { λ r n. n ≡ rank_number r };
+
+    fn from(rank: Rank) -> u8 {
+        match rank {
+            Rank::None => Rank::NUMBER_NONE,
+            Rank::E => Rank::NUMBER_E,
+            Rank::D => Rank::NUMBER_D,
+            Rank::C => Rank::NUMBER_C,
+            Rank::B => Rank::NUMBER_B,
+            Rank::A => Rank::NUMBER_A,
+        }
+    }
+}
+
 impl Rank {
+    // Constants and no bare numbers: document 01 has a rank carry its number and its time's datum as constants.
     pub const NUMBER_NONE: u8 = 0;
 
     pub const NUMBER_E: u8 = 1;
@@ -37,54 +70,22 @@ impl Rank {
 
     pub const TIME_B: usize = numbers::TIME_B;
 
-    pub fn number(self) -> u8
-        ensures { result ≡ rank_number self }
-    {
-        match self {
-            Rank::None => Rank::NUMBER_NONE,
-            Rank::E => Rank::NUMBER_E,
-            Rank::D => Rank::NUMBER_D,
-            Rank::C => Rank::NUMBER_C,
-            Rank::B => Rank::NUMBER_B,
-            Rank::A => Rank::NUMBER_A,
-        }
-    }
-
-    // The rank that a datum names; a number past 5, which no datum has, is read as A.
-    pub fn from_number(n: u64) -> Rank
-        ensures { result ≡ rank_from n }
-    {
-        match n {
-            0 => Rank::None,
-            1 => Rank::E,
-            2 => Rank::D,
-            3 => Rank::C,
-            4 => Rank::B,
-            _ => Rank::A,
-        }
-    }
-
     pub fn stronger(self, other: Rank) -> Rank
         ensures { result ≡ stronger_of self other }
     {
-        if self.number() < other.number() {
-            other
-        } else {
-            self
-        }
+        self.max(other)
     }
 
-    // The time of a stop, in cycles. A has none.
+    // The time of a stop, in cycles. None and A have none.
     pub fn time(self, values: &Values) -> u32
         ensures { result ≡ time_of values.now self }
     {
         match self {
-            Rank::None => 0,
+            Rank::None | Rank::A => 0,
             Rank::E => machine_data::cycles(values, Rank::TIME_E),
             Rank::D => machine_data::cycles(values, Rank::TIME_D),
             Rank::C => machine_data::cycles(values, Rank::TIME_C),
             Rank::B => machine_data::cycles(values, Rank::TIME_B),
-            Rank::A => 0,
         }
     }
 }

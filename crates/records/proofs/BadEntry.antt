@@ -12,36 +12,37 @@ use Rattle.words.proofs.Cases.{is_remark}
 use Rattle.words.proofs.Breaking.{Choice, met, missed, otherwise, onward, by_position, by_lower, by_upper, by_end, by_remark, Broken, never_broken, broken_here, broken_later}
 use Rattle.inputs.specs.declared.Reading.{Reading}
 use Rattle.seven.specs.declared.CycleRecord.{CycleRecord}
-use Rattle.records.specs.declared.InputsRead as I
-use Rattle.records.specs.declared.Entry as E
+use Rattle.std.proofs.Common.{Result, Ok, Err}
+use Rattle.records.specs.declared.Entry.{Entry}
+use Rattle.records.specs.declared.Entry.TheVariants.{Record, Remark}
 use Rattle.records.specs.Records.{inputs_at, on_inputs, reading, ending_at, other_at, entry_at}
 use Rattle.records.specs.IsLog.{a_record}
 use Rattle.records.proofs.Parts.{remark_is}
 
 -- an answer says Bad where the words break off, and nowhere else
-abbrev BadWhere : E.Entry → List Sort → List ℕ → ℕ → Type 0
-BadWhere x ks s at = (place : ℕ) → (x ≡ E.TheVariants.Bad place) ↔ Broken ks s at place
+abbrev BadWhere : Result Entry ℕ → List Sort → List ℕ → ℕ → Type 0
+BadWhere x ks s at = (place : ℕ) → (x ≡ Err place) ↔ Broken ks s at place
 
 module _ (s : List ℕ) where
   -- behind the last word nothing can be bad
-  whole : (r : CycleRecord) (at : ℕ) → BadWhere (E.TheVariants.Record r) [] s at
+  whole : (r : CycleRecord) (at : ℕ) → BadWhere (Ok (Record r)) [] s at
   whole r at place = (λ e. never (cc), λ x. absurd (never_broken x.2))
 
   -- one word more in front
-  word_by_word : {B : Type 0} {held : B → E.Entry} {x : E.Entry} (k : Sort) (ks : List Sort) (at : ℕ) →
-      Choice k (word_at s at) held (E.TheVariants.Bad at) x → ((b : B) → BadWhere (held b) ks s (at + 1)) → BadWhere x (k ∷ ks) s at
+  word_by_word : {B : Type 0} {held : B → Result Entry ℕ} {x : Result Entry ℕ} (k : Sort) (ks : List Sort) (at : ℕ) →
+      Choice k (word_at s at) held (Err at) x → ((b : B) → BadWhere (held b) ks s (at + 1)) → BadWhere x (k ∷ ks) s at
   word_by_word k ks at (met b t) rest place =
       (λ e. (broken_later k ks s at place t).0 ((rest b place).0 e), λ x. (rest b place).1 ((broken_later k ks s at place t).1 x))
-  word_by_word k ks at (missed q) rest place = (λ e. (broken_here k ks s at place q).0 (cc), λ x. ap E.TheVariants.Bad ((broken_here k ks s at place q).1 x))
+  word_by_word k ks at (missed q) rest place = (λ e. (broken_here k ks s at place q).0 (cc), λ x. ap Err ((broken_here k ks s at place q).1 x))
 
   -- "Kinds 5 and 6", and what follows them
-  inputs_bad : (ks : List Sort) (at to : ℕ) (f : ℕ → E.Entry) → to ≡ at + 1 + 1 → ((w : ℕ) → BadWhere (f w) ks s to) → BadWhere (on_inputs (inputs_at s at) f) (a_lower ∷ an_upper ∷ ks) s at
+  inputs_bad : (ks : List Sort) (at to : ℕ) (f : ℕ → Result Entry ℕ) → to ≡ at + 1 + 1 → ((w : ℕ) → BadWhere (f w) ks s to) → BadWhere (on_inputs (inputs_at s at) f) (a_lower ∷ an_upper ∷ ks) s at
   unfolding inputs_at
   inputs_bad ks at to f far rest =
       word_by_word a_lower (an_upper ∷ ks) at
-      (onward (λ (i : I.InputsRead). on_inputs i f) (by_lower (word_at s at) _ (I.TheVariants.Bad at)))
+      (onward (λ (i : Result ℕ ℕ). on_inputs i f) (by_lower (word_at s at) _ (Err at)))
       (λ low. word_by_word an_upper ks (at + 1)
-      (onward (λ (i : I.InputsRead). on_inputs i f) (by_upper (word_at s (at + 1)) _ (I.TheVariants.Bad (at + 1))))
+      (onward (λ (i : Result ℕ ℕ). on_inputs i f) (by_upper (word_at s (at + 1)) _ (Err (at + 1))))
       (λ high. subst (BadWhere (f (high * 65536 + low)) ks s) far (rest (high * 65536 + low))))
 
   -- "then 7"
@@ -60,12 +61,12 @@ module _ (s : List ℕ) where
   pub record_bad : (at : ℕ) → fits a_remark (word_at s at) ≡ false → BadWhere (entry_at s at) a_record s at
   unfolding entry_at
   record_bad at q =
-      rw (otherwise (by_remark (word_at s at) E.TheVariants.Remark (E.TheVariants.Bad at)) q)
+      rw (otherwise (by_remark (word_at s at) (Ok Remark) (Err at)) q)
       (word_by_word a_position (a_lower ∷ an_upper ∷ a_position ∷ a_lower ∷ an_upper ∷ an_end ∷ []) at (by_position (word_at s at) _ _)
       (λ p. inputs_bad (a_position ∷ a_lower ∷ an_upper ∷ an_end ∷ []) (at + 1) (at + 3) _ (omega arith) (λ w. other_bad (at + 3) (reading p w))))
 
   -- a remark is no bad entry
-  pub bad_no_remark : (at place : ℕ) → entry_at s at ≡ E.TheVariants.Bad place → fits a_remark (word_at s at) ≡ false
+  pub bad_no_remark : (at place : ℕ) → entry_at s at ≡ Err place → fits a_remark (word_at s at) ≡ false
   bad_no_remark at place e = go (fits a_remark (word_at s at)) refl
     where
       go : (t : Bool) → fits a_remark (word_at s at) ≡ t → fits a_remark (word_at s at) ≡ false

@@ -19,8 +19,9 @@ use Rattle.words.proofs.Front.{present, behind, front_reads, front_is}
 use Rattle.words.proofs.Cases.{is_position, is_end}
 use Rattle.inputs.specs.declared.Reading.{Reading}
 use Rattle.seven.specs.declared.CycleRecord.{CycleRecord}
-use Rattle.records.specs.declared.InputsRead as I
-use Rattle.records.specs.declared.Entry as E
+use Rattle.std.proofs.Common.{Result, Ok, Err}
+use Rattle.records.specs.declared.Entry.{Entry}
+use Rattle.records.specs.declared.Entry.TheVariants.{Record, Remark}
 use Rattle.records.specs.Records.{inputs_at, on_inputs, ending_at, other_at, between_of, entry_at, LogRead, records, fault, before, log_of}
 use Rattle.records.specs.IsLog.{IsReading, reading, IsLog, end, remark, cycle}
 use Rattle.records.proofs.Parts.{both_halves, halves, ending_is, other_is, entry_is, remark_is}
@@ -30,7 +31,7 @@ use Rattle.records.proofs.Scanning.{read, record_there, Rest, at_record, at_rema
 
 -- the words of a reading at the front
 reading_reads : {r : Reading} {w₁ w₂ w₃ : ℕ} → IsReading r w₁ w₂ w₃ → (s : List ℕ) (at : ℕ) (t : List ℕ) → drop at s ≡ w₁ ∷ w₂ ∷ w₃ ∷ t →
-    (word_at s at ≡ W.Position r.position) × (inputs_at s (at + 1) ≡ I.TheVariants.Inputs r.inputs) × (drop (at + 3) s ≡ t)
+    (word_at s at ≡ W.Position r.position) × (inputs_at s (at + 1) ≡ Ok r.inputs) × (drop (at + 3) s ≡ t)
 reading_reads (reading {w₁ = w₁} {w₂} {w₃} h₁ h₂ h₃) s at t e =
     let e₂ = behind s at w₁ (w₂ ∷ w₃ ∷ t) e in
     let e₃ = behind s (at + 1) w₂ (w₃ ∷ t) e₂ in
@@ -51,14 +52,14 @@ pub front_of_log : {rs : List CycleRecord} {front : List ℕ} → IsLog rs front
     (l : LogRead) → Rest s at l → (k : LogRead) × Rest s to k × (ahead rs k ≡ l)
 front_of_log end s at to t e far l rest = (l, subst (λ (i : ℕ). Rest s i l) (omega arith) rest, refl)
 front_of_log (remark {w} {ws = ws} h log) s at to t e far l rest =
-    let is : E.TheVariants.Remark ≡ entry_at s at = remark_is s at (front_reads s at w (ws ++ t) e h) in
+    let is : Ok Remark ≡ entry_at s at = remark_is s at (front_reads s at w (ws ++ t) e h) in
     front_of_log log s (at + 1) to t (behind s at w (ws ++ t) e) (omega arith) l (at_remark s at l (present s at w (ws ++ t) e) (sym is) rest)
 front_of_log (cycle {a} {b} {ack} {w₁} {w₂} {w₃} {w₄} {w₅} {w₆} {w₇} {rs} {ws} ha hb hz log) s at to t e far l rest =
     let x = reading_reads ha s at (w₄ ∷ w₅ ∷ w₆ ∷ w₇ ∷ (ws ++ t)) e in
     let y = reading_reads hb s (at + 3) (w₇ ∷ (ws ++ t)) x.2 in
     let z = front_reads s (at + 3 + 3) w₇ (ws ++ t) y.2 hz in
     let r : CycleRecord = record { a = a; b = b; acknowledged = ack } in
-    let is : E.TheVariants.Record r ≡ entry_at s at = ending_is s (at + 3 + 3) a b z ∙ other_is s (at + 3) a y.0 y.1 ∙ entry_is s at x.0 x.1 in
+    let is : Ok (Record r) ≡ entry_at s at = ending_is s (at + 3 + 3) a b z ∙ other_is s (at + 3) a y.0 y.1 ∙ entry_is s at x.0 x.1 in
     let seven : at + 3 + 3 + 1 ≡ at + 7 = omega arith in
     let more = at_record s at l r (present s at w₁ (w₂ ∷ w₃ ∷ w₄ ∷ w₅ ∷ w₆ ∷ w₇ ∷ (ws ++ t)) e) (sym is) rest in
     let last = front_of_log log s (at + 7) to t (ap (λ (i : ℕ). drop i s) (sym seven) ∙ behind s (at + 3 + 3) w₇ (ws ++ t) y.2) (omega arith) more.0 more.1 in
@@ -76,7 +77,7 @@ log_reads s rs log =
 -- ---- what is read was written
 
 -- a reading at a place, and what stands behind it
-reading_written : (s : List ℕ) (at : ℕ) (r : Reading) → word_at s at ≡ W.Position r.position → inputs_at s (at + 1) ≡ I.TheVariants.Inputs r.inputs → at + 3 ≤ length s →
+reading_written : (s : List ℕ) (at : ℕ) (r : Reading) → word_at s at ≡ W.Position r.position → inputs_at s (at + 1) ≡ Ok r.inputs → at + 3 ≤ length s →
     (w₁ : ℕ) × (w₂ : ℕ) × (w₃ : ℕ) × IsReading r w₁ w₂ w₃ × (drop at s ≡ w₁ ∷ w₂ ∷ w₃ ∷ drop (at + 3) s)
 reading_written s at r p i far =
     let h = halves s (at + 1) r.inputs i in
@@ -94,7 +95,7 @@ reading_written s at r p i far =
     )
 
 -- what is shown of a record's seven words and all behind them holds where one is read
-pub record_written : (s : List ℕ) (at : ℕ) (r : CycleRecord) (P : List ℕ → Type 0) → entry_at s at ≡ E.TheVariants.Record r
+pub record_written : (s : List ℕ) (at : ℕ) (r : CycleRecord) (P : List ℕ → Type 0) → entry_at s at ≡ Ok (Record r)
     → ((w₁ w₂ w₃ w₄ w₅ w₆ w₇ : ℕ) → IsReading r.a w₁ w₂ w₃ → IsReading r.b w₄ w₅ w₆ → IsWord w₇ (W.End r.acknowledged) → P (w₁ ∷ w₂ ∷ w₃ ∷ w₄ ∷ w₅ ∷ w₆ ∷ w₇ ∷ drop (at + 7) s))
     → P (drop at s)
 record_written s at r P e shown =
@@ -108,23 +109,23 @@ record_written s at r P e shown =
     = a.4 ∙ ap (λ (t : List ℕ). a.0 ∷ a.1 ∷ a.2 ∷ t) (b.4 ∙ ap (λ (t : List ℕ). b.0 ∷ b.1 ∷ b.2 ∷ t) (z ∙ ap (λ (i : ℕ). get_or s (at + 3 + 3) 0 ∷ drop i s) last)) in
     subst P (sym whole) (shown a.0 a.1 a.2 b.0 b.1 b.2 (get_or s (at + 3 + 3) 0) a.3 b.3 (read_at s (at + 3 + 3) x.ending (λ y. never (cc))))
 
-on_inputs_no_remark : (x : I.InputsRead) (f : ℕ → E.Entry) → ((w : ℕ) → f w ≡ E.TheVariants.Remark → ⊥) → on_inputs x f ≡ E.TheVariants.Remark → ⊥
-on_inputs_no_remark (I.TheVariants.Inputs w) f h e = h w e
-on_inputs_no_remark (I.TheVariants.Bad place) f h e = never (cc)
+on_inputs_no_remark : (x : Result ℕ ℕ) (f : ℕ → Result Entry ℕ) → ((w : ℕ) → f w ≡ Ok Remark → ⊥) → on_inputs x f ≡ Ok Remark → ⊥
+on_inputs_no_remark (Ok w) f h e = h w e
+on_inputs_no_remark (Err place) f h e = never (cc)
 
-no_remark_inside : (s : List ℕ) (at : ℕ) (a : Reading) → other_at s at a ≡ E.TheVariants.Remark → ⊥
+no_remark_inside : (s : List ℕ) (at : ℕ) (a : Reading) → other_at s at a ≡ Ok Remark → ⊥
 unfolding other_at ending_at
 no_remark_inside s at a e =
-    let p = is_position (word_at s at) (λ p. on_inputs (inputs_at s (at + 1)) (λ w. ending_at s (at + 3) a (record { position = p; inputs = w }))) (E.TheVariants.Bad at) E.TheVariants.Remark e (λ y. never (cc)) in
+    let p = is_position (word_at s at) (λ p. on_inputs (inputs_at s (at + 1)) (λ w. ending_at s (at + 3) a (record { position = p; inputs = w }))) (Err at) (Ok Remark) e (λ y. never (cc)) in
     on_inputs_no_remark (inputs_at s (at + 1)) (λ w. ending_at s (at + 3) a (record { position = p.0; inputs = w }))
-    (λ w y. let z = is_end (word_at s (at + 3)) (λ ack. E.TheVariants.Record (record { a = a; b = record { position = p.0; inputs = w }; acknowledged = ack })) (E.TheVariants.Bad (at + 3)) E.TheVariants.Remark y (λ q. never (cc)) in never (cc z.2))
+    (λ w y. let z = is_end (word_at s (at + 3)) (λ ack. Ok (Record (record { a = a; b = record { position = p.0; inputs = w }; acknowledged = ack }))) (Err (at + 3)) (Ok Remark) y (λ q. never (cc)) in never (cc z.2))
     p.2
 
-pub remark_at : (s : List ℕ) (at : ℕ) → entry_at s at ≡ E.TheVariants.Remark → word_at s at ≡ W.Remark
+pub remark_at : (s : List ℕ) (at : ℕ) → entry_at s at ≡ Ok Remark → word_at s at ≡ W.Remark
 unfolding entry_at
 remark_at s at = go (word_at s at) refl
   where
-    go : (x : Word) → word_at s at ≡ x → if_position x (λ p. on_inputs (inputs_at s (at + 1)) (λ w. other_at s (at + 3) (record { position = p; inputs = w }))) (between_of x at) ≡ E.TheVariants.Remark → x ≡ W.Remark
+    go : (x : Word) → word_at s at ≡ x → if_position x (λ p. on_inputs (inputs_at s (at + 1)) (λ w. other_at s (at + 3) (record { position = p; inputs = w }))) (between_of x at) ≡ Ok Remark → x ≡ W.Remark
     go (W.Head n) q e = never (cc)
     go (W.Datum k f) q e = never (cc)
     go (W.Piece b) q e = never (cc)
@@ -135,22 +136,22 @@ remark_at s at = go (word_at s at) refl
     go W.Remark q e = refl
     go W.Other q e = never (cc)
 
-pub remark_word : (s : List ℕ) (at : ℕ) → entry_at s at ≡ E.TheVariants.Remark → IsWord (get_or s at 0) W.Remark
+pub remark_word : (s : List ℕ) (at : ℕ) → entry_at s at ≡ Ok Remark → IsWord (get_or s at 0) W.Remark
 remark_word s at e = read_at s at (remark_at s at e) (λ y. never (cc))
 
 -- ---- what is read was written, entry by entry
 
 -- what is shown of the end, of a fault, and of an entry before what stands behind it, holds of all that is read from any place on
 module _ (s : List ℕ) (P : ℕ → LogRead → Type 0) (of_end : (at : ℕ) → length s ≤ at → P at (records []))
-    (of_fault : (at place : ℕ) → at < length s → entry_at s at ≡ E.TheVariants.Bad place → P at (fault place))
-    (of_remark : (at : ℕ) (l : LogRead) → at < length s → entry_at s at ≡ E.TheVariants.Remark → P (at + 1) l → P at l)
-    (of_record : (at : ℕ) (r : CycleRecord) (l : LogRead) → entry_at s at ≡ E.TheVariants.Record r → P (at + 7) l → P at (before r l)) where
-  by_entry : (at : ℕ) (l : LogRead) → at < length s → Rest s at l → ((to : ℕ) (k : LogRead) → at < to → Rest s to k → P to k) → (x : E.Entry) → entry_at s at ≡ x → P at l
-  by_entry at l inside rest more (E.TheVariants.Record r) e =
+    (of_fault : (at place : ℕ) → at < length s → entry_at s at ≡ Err place → P at (fault place))
+    (of_remark : (at : ℕ) (l : LogRead) → at < length s → entry_at s at ≡ Ok Remark → P (at + 1) l → P at l)
+    (of_record : (at : ℕ) (r : CycleRecord) (l : LogRead) → entry_at s at ≡ Ok (Record r) → P (at + 7) l → P at (before r l)) where
+  by_entry : (at : ℕ) (l : LogRead) → at < length s → Rest s at l → ((to : ℕ) (k : LogRead) → at < to → Rest s to k → P to k) → (x : Result Entry ℕ) → entry_at s at ≡ x → P at l
+  by_entry at l inside rest more (Ok (Record r)) e =
       let x = at_record s at l r inside e rest in
       subst (P at) x.2 (of_record at r x.0 e (more (at + 7) x.0 (omega arith) x.1))
-  by_entry at l inside rest more E.TheVariants.Remark e = of_remark at l inside e (more (at + 1) l (omega arith) (at_remark s at l inside e rest))
-  by_entry at l inside rest more (E.TheVariants.Bad place) e = subst (P at) (at_bad s at l inside e rest) (of_fault at place inside e)
+  by_entry at l inside rest more (Ok Remark) e = of_remark at l inside e (more (at + 1) l (omega arith) (at_remark s at l inside e rest))
+  by_entry at l inside rest more (Err place) e = subst (P at) (at_bad s at l inside e rest) (of_fault at place inside e)
 
   pub by_entries : (n at : ℕ) (l : LogRead) → length s ≤ at + n → Rest s at l → P at l
   by_entries zero at l far rest = subst (P at) (at_end s at l (omega arith) rest) (of_end at (omega arith))
@@ -170,11 +171,11 @@ log_written s rs e =
     by_entries s (Stand s) (λ at h. subst (IsLog []) (sym (drop_of_length-le s {i = at} h)) end) (λ at place inside q. tt) of_remark of_record (length s) 0 (records rs)
     (omega arith) (length s, omega arith, e)
   where
-    of_remark : (at : ℕ) (l : LogRead) → at < length s → entry_at s at ≡ E.TheVariants.Remark → Stand s (at + 1) l → Stand s at l
+    of_remark : (at : ℕ) (l : LogRead) → at < length s → entry_at s at ≡ Ok Remark → Stand s (at + 1) l → Stand s at l
     of_remark at (records ks) inside q log = subst (IsLog ks) (sym (front_is s at inside)) (remark (remark_word s at q) log)
     of_remark at (fault place) inside q x = tt
 
-    of_record : (at : ℕ) (r : CycleRecord) (l : LogRead) → entry_at s at ≡ E.TheVariants.Record r → Stand s (at + 7) l → Stand s at (before r l)
+    of_record : (at : ℕ) (r : CycleRecord) (l : LogRead) → entry_at s at ≡ Ok (Record r) → Stand s (at + 7) l → Stand s at (before r l)
     of_record at r (records ks) q log = record_written s at r (IsLog (r ∷ ks)) q (λ w₁ w₂ w₃ w₄ w₅ w₆ w₇ a b z. cycle a b z log)
     of_record at r (fault place) q x = tt
 

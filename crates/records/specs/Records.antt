@@ -1,44 +1,43 @@
 -- A log read as cycle records: document 01, "A log is cycle records: kinds 4, 5, 6 of A, the same of B, then 7".
-use Rattle.std.specs.Prelude.{ℕ, zero, suc, ◌+◌, ◌*◌, cond, List, [], ◌∷◌, length, ℤ, ltb}
+use Rattle.std.specs.Prelude.{ℕ, zero, suc, ◌+◌, ◌*◌, cond, List, [], ◌∷◌, length, ℤ, ltb, Result, Ok, Err}
 use Rattle.words.specs.declared.Word.{Word}
 use Rattle.words.specs.Words.{word_at}
 use Rattle.words.specs.Cases.{if_position, if_lower, if_upper, if_end, if_remark}
 use Rattle.inputs.specs.declared.Reading.{Reading}
 use Rattle.seven.specs.declared.CycleRecord.{CycleRecord}
-use Rattle.records.specs.declared.InputsRead as I
-use Rattle.records.specs.declared.Entry as E
-use Rattle.records.specs.declared.Scan as S
+use Rattle.records.specs.declared.Entry.{Entry}
+use Rattle.records.specs.declared.Entry.TheVariants.{Record, Remark}
 
 -- "Kinds 5 and 6: lower and upper 16 bits of the input word"
-unfoldable pub inputs_at : List ℕ → ℕ → I.InputsRead
+unfoldable pub inputs_at : List ℕ → ℕ → Result ℕ ℕ
 inputs_at s at =
     if_lower (word_at s at)
-    (λ low. if_upper (word_at s (at + 1)) (λ high. I.TheVariants.Inputs (high * 65536 + low)) (I.TheVariants.Bad (at + 1)))
-    (I.TheVariants.Bad at)
+    (λ low. if_upper (word_at s (at + 1)) (λ high. Ok (high * 65536 + low)) (Err (at + 1)))
+    (Err at)
 
-abbrev pub on_inputs : I.InputsRead → (ℕ → E.Entry) → E.Entry
-on_inputs (I.TheVariants.Inputs w) f = f w
-on_inputs (I.TheVariants.Bad place) f = E.TheVariants.Bad place
+abbrev pub on_inputs : Result ℕ ℕ → (ℕ → Result Entry ℕ) → Result Entry ℕ
+on_inputs (Ok w) f = f w
+on_inputs (Err place) f = Err place
 
 abbrev pub reading : ℤ → ℕ → Reading
 reading position inputs = record { position = position; inputs = inputs }
 
 -- "then 7"
-unfoldable pub ending_at : List ℕ → ℕ → Reading → Reading → E.Entry
+unfoldable pub ending_at : List ℕ → ℕ → Reading → Reading → Result Entry ℕ
 ending_at s at a b =
-    if_end (word_at s at) (λ ack. E.TheVariants.Record (record { a = a; b = b; acknowledged = ack })) (E.TheVariants.Bad at)
+    if_end (word_at s at) (λ ack. Ok (Record (record { a = a; b = b; acknowledged = ack }))) (Err at)
 
 -- "the same of B"
-unfoldable pub other_at : List ℕ → ℕ → Reading → E.Entry
+unfoldable pub other_at : List ℕ → ℕ → Reading → Result Entry ℕ
 other_at s at a =
-    if_position (word_at s at) (λ p. on_inputs (inputs_at s (at + 1)) (λ w. ending_at s (at + 3) a (reading p w))) (E.TheVariants.Bad at)
+    if_position (word_at s at) (λ p. on_inputs (inputs_at s (at + 1)) (λ w. ending_at s (at + 3) a (reading p w))) (Err at)
 
 -- "A word between records that is a remark is passed over"
-abbrev pub between_of : Word → ℕ → E.Entry
-between_of w at = if_remark w E.TheVariants.Remark (E.TheVariants.Bad at)
+abbrev pub between_of : Word → ℕ → Result Entry ℕ
+between_of w at = if_remark w (Ok Remark) (Err at)
 
 -- "kinds 4, 5, 6 of A"
-unfoldable pub entry_at : List ℕ → ℕ → E.Entry
+unfoldable pub entry_at : List ℕ → ℕ → Result Entry ℕ
 entry_at s at =
     if_position (word_at s at) (λ p. on_inputs (inputs_at s (at + 1)) (λ w. other_at s (at + 3) (reading p w))) (between_of (word_at s at) at)
 
@@ -51,10 +50,10 @@ abbrev pub before : CycleRecord → LogRead → LogRead
 before r (records rs) = records (r ∷ rs)
 before r (fault place) = fault place
 
-abbrev pub on_entry : E.Entry → (CycleRecord → LogRead) → LogRead → LogRead
-on_entry (E.TheVariants.Record r) f g = f r
-on_entry E.TheVariants.Remark f g = g
-on_entry (E.TheVariants.Bad place) f g = fault place
+abbrev pub on_entry : Result Entry ℕ → (CycleRecord → LogRead) → LogRead → LogRead
+on_entry (Ok (Record r)) f g = f r
+on_entry (Ok Remark) f g = g
+on_entry (Err place) f g = fault place
 
 -- from a place on, at most n entries; "also before the first and after the last"
 unfoldable pub log_from : ℕ → List ℕ → ℕ → LogRead
@@ -66,9 +65,9 @@ log_from (suc n) s at =
 abbrev pub log_of : List ℕ → LogRead
 log_of s = log_from (length s) s 0
 
-abbrev pub counted : ℕ → LogRead → S.Scan
-counted n (records rs) = S.TheVariants.Cycles (n + length rs)
-counted n (fault place) = S.TheVariants.Bad place
+abbrev pub counted : ℕ → LogRead → Result ℕ ℕ
+counted n (records rs) = Ok (n + length rs)
+counted n (fault place) = Err place
 
-abbrev pub scan_of : List ℕ → S.Scan
+abbrev pub scan_of : List ℕ → Result ℕ ℕ
 scan_of s = counted 0 (log_of s)

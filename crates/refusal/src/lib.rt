@@ -4,7 +4,7 @@
 ghost use Rattle.std.specs.Prelude.{◌≡◌};
 ghost use Rattle.refusal.specs.Refusal.{refusal_number, refusal_place};
 
-#[derive(Clone, Copy)]
+#[derive(Clone, Copy, PartialEq, Eq)]
 pub enum Refusal {
     // a list's word is missing, or of wrong kind, number or bits: its place
     WrongWord(usize),
@@ -23,11 +23,18 @@ pub enum Refusal {
 }
 
 // The part of a kit that a refusal is about, and in which its place is counted.
-#[derive(Clone, Copy)]
+#[derive(Clone, Copy, PartialEq, Eq)]
 pub enum Part {
     ListA,
     ListB,
     Log,
+}
+
+// Why a kit is refused, and in which part of it.
+#[derive(Clone, Copy, PartialEq, Eq)]
+pub struct KitRefusal {
+    pub why: Refusal,
+    pub part: Part,
 }
 
 impl Refusal {
@@ -51,12 +58,12 @@ impl Refusal {
         ensures { result ≡ refusal_place self }
     {
         match self {
-            Refusal::WrongWord(place) => place,
-            Refusal::OpenDatum(place) => place,
-            Refusal::NoWholeNumber(place) => place,
-            Refusal::OutOfRange(place) => place,
-            Refusal::SeEnds(place) => place,
-            Refusal::WrongLog(place) => place,
+            Refusal::WrongWord(place)
+            | Refusal::OpenDatum(place)
+            | Refusal::NoWholeNumber(place)
+            | Refusal::OutOfRange(place)
+            | Refusal::SeEnds(place)
+            | Refusal::WrongLog(place) => place,
             Refusal::ShortOutput(wanted) => wanted,
             Refusal::NothingPending => 0,
         }

@@ -7,14 +7,15 @@ use Prim.Native.Nat.{ℕ, ◌%◌}
 use lib.ListN.{length, drop}
 use lib.Dec.{leb, eqb}
 use borrow.Author.Tests.{le-leb, eq-eqb, leb-true, eqb-true}
+use Rattle.std.specs.Prelude.{Result, Ok, Err}
 use Rattle.laws.proofs.Never.{never}
 use Rattle.laws.proofs.Bools.{both}
 use Rattle.refusal.specs.declared.Refusal.{Refusal}
 use Rattle.refusal.specs.declared.Refusal.TheVariants.{WrongLog}
 use Rattle.refusal.specs.declared.Part.{Part}
+use Rattle.refusal.specs.declared.KitRefusal.{KitRefusal}
 use Rattle.refusal.specs.declared.Part.TheVariants.{Log}
 use Rattle.kit.specs.declared.KitRead.{KitRead}
-use Rattle.kit.specs.declared.KitAnswer as K
 use Rattle.kit.specs.Kit.{read_kit}
 use Rattle.kit.proofs.Lists.{accepted_kit_lem}
 use Rattle.records.specs.Records.{LogRead, records, fault, log_of}
@@ -50,14 +51,14 @@ module _ (kit : List ℕ) where
     unfolding S.said S.said_of
     refused = by_size (whole_words (length kit)) refl
       where
-        by_log_lem : KitSize kit → (at : ℕ) → (read_kit (words_of kit)).answer ≡ K.TheVariants.Accepted at → (l : LogRead) → log_of (drop at (words_of kit)) ≡ l →
+        by_log_lem : KitSize kit → (at : ℕ) → (read_kit (words_of kit)).answer ≡ Ok at → (l : LogRead) → log_of (drop at (words_of kit)) ≡ l →
             S.by_log (read_kit (words_of kit)).a (read_kit (words_of kit)).b l ≡ S.refused why part → BenchFault kit why part
         by_log_lem right at q (records rs) h e = never (cc)
         by_log_lem right at q (fault place) h e = as_said e (log right (are_lists (words_of kit) q) ((is_fault (drop at (words_of kit)) place).0 h))
 
-        by_lists_lem : KitSize kit → (x : K.KitAnswer) → (read_kit (words_of kit)).answer ≡ x → S.by_lists (words_of kit) (read_kit (words_of kit)) x ≡ S.refused why part → BenchFault kit why part
-        by_lists_lem right (K.TheVariants.Accepted at) q e = by_log_lem right at q (log_of (drop at (words_of kit))) refl e
-        by_lists_lem right (K.TheVariants.Refused x p) q e = as_said e (lists right ((refused_kit (words_of kit) x p).0 q))
+        by_lists_lem : KitSize kit → (x : Result ℕ KitRefusal) → (read_kit (words_of kit)).answer ≡ x → S.by_lists (words_of kit) (read_kit (words_of kit)) x ≡ S.refused why part → BenchFault kit why part
+        by_lists_lem right (Ok at) q e = by_log_lem right at q (log_of (drop at (words_of kit))) refl e
+        by_lists_lem right (Err r) q e = as_said e (lists right ((refused_kit (words_of kit) r.why r.part).0 q))
 
         by_size : (t : Bool) → whole_words (length kit) ≡ t → cond t (S.by_lists (words_of kit) (read_kit (words_of kit)) (read_kit (words_of kit)).answer) (S.refused (WrongLog 0) Log) ≡ S.refused why part → BenchFault kit why part
         by_size true q e = by_lists_lem (right_size q) (read_kit (words_of kit)).answer refl e

@@ -13,6 +13,7 @@ use lib.Signed.{lt_z}
 use lib.Dec.{T, eqb}
 use lib.Ieee.Bits.{is_true}
 use borrow.Author.Tests.{eqb-true, eqb-false}
+use Rattle.std.specs.Prelude.{Result, Ok, Err}
 use Rattle.laws.proofs.Never.{never}
 use Rattle.laws.proofs.Bools.{is_false}
 use Rattle.refusal.specs.declared.Refusal.{Refusal}
@@ -26,11 +27,9 @@ use Rattle.words.proofs.Breaks.{stands, lacks, lacked, held_head, other_head}
 use Rattle.words.proofs.Front.{front_reads}
 use Rattle.ranges.specs.Table.{data_count, allowed}
 use Rattle.machine_data.specs.declared.MachineData.{MachineData}
-use Rattle.datum.specs.declared.DatumAnswer as D
 use Rattle.datum.specs.Datum.{value_at}
 use Rattle.datum.proofs.Written.{Wrote, read_written}
 use Rattle.list.specs.declared.ListRead.{ListRead}
-use Rattle.list.specs.declared.ListAnswer as A
 use Rattle.list.specs.Rules.{is_head, se_below}
 use Rattle.list.specs.Reading.{accepted_list, refused_list, place_of, ends, on_value, gather, zeros, read_list}
 use Rattle.list.specs.IsList.{DataTo, end, datum, filled}
@@ -128,7 +127,7 @@ refuses (F.datum {w} {n} {k} {m} {cause} {vs} {before} {ws} h size low x f) =
     by_data (before ++ ws) h size
     ∙ ap (λ (i : ℕ). gather n i s 0 1 zeros) many
     ∙ y.3
-    ∙ ap (λ (t : D.DatumAnswer). on_value t (λ z next. gather n (n - suc k) s (k + 1) next (set y.0 k z))) (fault_value f s (1 + length before) (behind s 1 before ws refl))
+    ∙ ap (λ (t : Result (ℤ × ℕ) Refusal). on_value t (λ z next. gather n (n - suc k) s (k + 1) next (set y.0 k z))) (fault_value f s (1 + length before) (behind s 1 before ws refl))
     ∙ ap (λ (i : ℕ). refused_list (cause i)) place
 refuses (se1 {w} {n} {minus} {plus} {vs} {later} {before} {behind = from} rest h size x y wrong) =
     let t = to_ends rest h size x y in
@@ -155,7 +154,7 @@ put : {s s' : List ℕ} {x y : Refusal} → s ≡ s' → x ≡ y → IsFault s x
 put a b f = subst (λ (i : List ℕ × Refusal). IsFault i.0 i.1) (λ i. (a i, b i)) f
 
 answer : {x y : Refusal} → refused_list x ≡ refused_list y → x ≡ y
-answer {x} {y} e = let same : A.TheVariants.Refused x ≡ A.TheVariants.Refused y = ap (λ (r : ListRead). r.answer) e in cc
+answer {x} {y} e = let same : Err x ≡ Err y = ap (λ (r : ListRead). r.answer) e in cc
 
 module _ (s : List ℕ) (n : ℕ) (head : IsWord (get_or s 0 0) (W.Head n)) (size : T (is_head n)) (whole : s ≡ get_or s 0 0 ∷ drop 1 s) where
   -- a faulty datum, or all of them
@@ -171,12 +170,12 @@ module _ (s : List ℕ) (n : ℕ) (head : IsWord (get_or s 0 0) (W.Head n)) (siz
       go (value_at n s k at) (read_written n s k at) (λ y. value_fault n s k at {why = y})
       (λ z next vs' ws'. walk why i (k + 1) next (set acc k z) {vs = vs'} {ws = ws'}) r
     where
-      go : (t : D.DatumAnswer) → ((z : ℤ) (next : ℕ) → t ≡ D.TheVariants.Value z next → Wrote s k at z next × T (allowed n k z)) →
-          ((y : Refusal) → t ≡ D.TheVariants.Refused y → Faulty n s k at y) →
+      go : (t : Result (ℤ × ℕ) Refusal) → ((z : ℤ) (next : ℕ) → t ≡ Ok (z, next) → Wrote s k at z next × T (allowed n k z)) →
+          ((y : Refusal) → t ≡ Err y → Faulty n s k at y) →
           ((z : ℤ) (next : ℕ) (vs' : List ℤ) (ws' : List ℕ) → DataTo n (k + 1) 0 vs' ws' → drop 1 s ≡ ws' ++ drop next s → next ≡ 1 + length ws' → i + (k + 1) ≡ n →
           gather n i s (k + 1) next (set acc k z) ≡ refused_list why → Walked why) →
           on_value t (λ z next. gather n i s (k + 1) next (set acc k z)) ≡ refused_list why → Walked why
-      go (D.TheVariants.Value z next) wrote fault rest g =
+      go (Ok (z, next)) wrote fault rest g =
           let both = wrote z next refl in
           let w = both.0 in
           let t = joined {l = suc k} x (datum w.written both.1 end) in
@@ -186,7 +185,7 @@ module _ (s : List ℕ) (n : ℕ) (head : IsWord (get_or s 0 0) (W.Head n)) (siz
           (omega (arith, w.far, here, ap length is, length-append ws w.words))
           (omega (arith, c))
           g
-      go (D.TheVariants.Refused y) wrote fault rest g =
+      go (Err y) wrote fault rest g =
           let f = fault y refl in
           let far : suc (length ws + f.1) ≡ at + f.1 = omega (arith, here) in
           faulty (put (sym (whole ∙ ap (λ (l : List ℕ). get_or s 0 0 ∷ l) e)) (ap f.0 far ∙ sym f.2 ∙ answer g) (F.datum head size (omega (arith, c)) x f.3))

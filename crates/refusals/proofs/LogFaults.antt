@@ -7,6 +7,7 @@ use Prim.Native.Nat.{ℕ, ◌+◌, ◌<◌}
 use native.Mathlib.Omega.{arith}
 use lib.ListN.{length, get_or, drop}
 use lib.Seq.{drop-append_seam}
+use Rattle.std.specs.Prelude.{Ok, Err}
 use Rattle.words.specs.declared.Word.TheVariants as W
 use Rattle.words.specs.IsWord.{IsWord}
 use Rattle.words.specs.Breaks.{a_remark, IsA, Breaks}
@@ -14,7 +15,7 @@ use Rattle.words.proofs.Front.{present, front_is}
 use Rattle.words.proofs.Breaks.{lacks, lacked}
 use Rattle.inputs.specs.declared.Reading.{Reading}
 use Rattle.seven.specs.declared.CycleRecord.{CycleRecord}
-use Rattle.records.specs.declared.Entry as E
+use Rattle.records.specs.declared.Entry.TheVariants.{Record, Remark}
 use Rattle.records.specs.Records.{entry_at, LogRead, records, fault, before, log_of}
 use Rattle.records.specs.IsLog.{a_record, IsReading, IsLog, end, remark, cycle}
 use Rattle.records.proofs.Scanning.{at_bad}
@@ -61,7 +62,7 @@ fault_written s place e =
     let x = by_entries s (Stand s) (λ at h. tt) of_fault of_remark of_record (length s) 0 (fault place) (omega arith) (length s, omega arith, e) in
     subst (FaultAt s) (omega (arith, x.1)) x.2
   where
-    of_fault : (at bad : ℕ) → at < length s → entry_at s at ≡ E.TheVariants.Bad bad → Stand s at (fault bad)
+    of_fault : (at bad : ℕ) → at < length s → entry_at s at ≡ Err bad → Stand s at (fault bad)
     of_fault at bad inside q =
         let no_remark = bad_no_remark s at bad q in
         let x = (record_bad s at no_remark bad).0 q in
@@ -72,12 +73,12 @@ fault_written s place e =
               (fault_behind x.0 end (lacks a_remark s at no_remark (get_or s at 0) (drop (at + 1) s) first) (subst (λ (ws : List ℕ). Breaks a_record ws x.0) first x.2) (omega arith)),
         )
 
-    of_remark : (at : ℕ) (l : LogRead) → at < length s → entry_at s at ≡ E.TheVariants.Remark → Stand s (at + 1) l → Stand s at l
+    of_remark : (at : ℕ) (l : LogRead) → at < length s → entry_at s at ≡ Ok Remark → Stand s (at + 1) l → Stand s at l
     of_remark at (records rs) inside q x = tt
     of_remark at (fault bad) inside q (p, far, f) =
         (p + 1, omega arith, subst (λ (ws : List ℕ). FaultAt ws (p + 1)) (sym (front_is s at inside)) (behind_remark (remark_word s at q) f))
 
-    of_record : (at : ℕ) (r : CycleRecord) (l : LogRead) → entry_at s at ≡ E.TheVariants.Record r → Stand s (at + 7) l → Stand s at (before r l)
+    of_record : (at : ℕ) (r : CycleRecord) (l : LogRead) → entry_at s at ≡ Ok (Record r) → Stand s (at + 7) l → Stand s at (before r l)
     of_record at r (records rs) q x = tt
     of_record at r (fault bad) q (p, far, f) =
         (p + 7, omega arith, record_written s at r (λ (ws : List ℕ). FaultAt ws (p + 7)) q (λ w₁ w₂ w₃ w₄ w₅ w₆ w₇ a b z. behind_cycle a b z f))

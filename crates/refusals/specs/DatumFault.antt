@@ -4,6 +4,8 @@ use Rattle.std.specs.Float.{binary32, binary64}
 use Rattle.std.specs.Float.Ieee.{of_bits}
 use Rattle.refusal.specs.declared.Refusal.{Refusal}
 use Rattle.refusal.specs.declared.Refusal.TheVariants.{WrongWord, OpenDatum, NoWholeNumber, OutOfRange}
+use Rattle.words.specs.declared.Form.{Form}
+use Rattle.words.specs.declared.Form.TheVariants.{Single, Double, Open}
 use Rattle.words.specs.declared.Word.TheVariants.{Datum}
 use Rattle.words.specs.IsWord.{IsWord}
 use Rattle.words.specs.Breaks.{Sort, a_datum, a_piece, Lacks, Breaks}
@@ -20,11 +22,11 @@ pieces (suc n) = a_piece ∷ pieces n
 pub data DatumFault (head k : ℕ) : List ℕ → (ℕ → Refusal) → ℕ → Type 0 where
   -- "list word missing, of wrong kind, number or bits"
   no_datum : {ws : List ℕ} → Lacks (a_datum k) ws → DatumFault head k ws WrongWord 0
-  no_piece : {w f m : ℕ} {ws : List ℕ} → IsWord w (Datum k f) → Breaks (pieces (form_pieces f)) ws m → DatumFault head k (w ∷ ws) WrongWord (suc m)
+  no_piece : {w m : ℕ} {f : Form} {ws : List ℕ} → IsWord w (Datum k f) → Breaks (pieces (form_pieces f)) ws m → DatumFault head k (w ∷ ws) WrongWord (suc m)
   -- "datum open": "place of its kind 2 word"
-  is_open : {w : ℕ} {ws : List ℕ} → IsWord w (Datum k 3) → DatumFault head k (w ∷ ws) OpenDatum 0
+  is_open : {w : ℕ} {ws : List ℕ} → IsWord w (Datum k Open) → DatumFault head k (w ∷ ws) OpenDatum 0
   -- "float stands for no whole number": "same"
-  no_single : {w b : ℕ} {ps : List ℕ} (ws : List ℕ) → IsWord w (Datum k 1) → InPieces 2 b ps → ((z : ℤ) → StandsFor (of_bits binary32 b) z → ⊥) → DatumFault head k (w ∷ (ps ++ ws)) NoWholeNumber 0
-  no_double : {w b : ℕ} {ps : List ℕ} (ws : List ℕ) → IsWord w (Datum k 2) → InPieces 4 b ps → ((z : ℤ) → StandsFor (of_bits binary64 b) z → ⊥) → DatumFault head k (w ∷ (ps ++ ws)) NoWholeNumber 0
+  no_single : {w b : ℕ} {ps : List ℕ} (ws : List ℕ) → IsWord w (Datum k Single) → InPieces 2 b ps → ((z : ℤ) → StandsFor (of_bits binary32 b) z → ⊥) → DatumFault head k (w ∷ (ps ++ ws)) NoWholeNumber 0
+  no_double : {w b : ℕ} {ps : List ℕ} (ws : List ℕ) → IsWord w (Datum k Double) → InPieces 4 b ps → ((z : ℤ) → StandsFor (of_bits binary64 b) z → ⊥) → DatumFault head k (w ∷ (ps ++ ws)) NoWholeNumber 0
   -- "datum out of range": "same"
   beyond : {z : ℤ} {w : List ℕ} (ws : List ℕ) → Written k z w → (T (allowed head k z) → ⊥) → DatumFault head k (w ++ ws) OutOfRange 0

@@ -1,14 +1,11 @@
--- Two numbers of 32 bits differ where their distance is above 0, by the laws of sums of integers. Assumes nothing.
-use Prim.Native.Nat.{ℕ, zero, suc, ◌<◌}
+-- Where heads or data differ, and where they are the same: two numbers are the same where their distance is 0, by the laws of sums of integers. Assumes nothing.
+use Prim.Native.Nat.{ℕ}
 use mathlib.Core.Bool.{Bool, true, false, not, ◌||◌}
 use mathlib.Core.Path.{◌≡◌, refl, sym, ◌∙◌, ap, subst}
 use native.Mathlib.Omega.{arith}
-use borrow.Author.Tests.{lt-ltb, eq-eqb, ne_eqb, eqb-true, eqb-false, ltb-false}
+use borrow.Author.Tests.{eq-eqb, ne_eqb, eqb-true, ltb-false}
 use lib.Dec.{T, ltb, eqb}
 use lib.IntN.{ℤ, pos, negsuc, nat_abs, ◌-ℤ◌, +ℤ_idl, +ℤ_invr, -ℤ-+ℤ_cancel}
-use mir.Facts.{to_z-of_z}
-use mir.Syntax.{w32}
-use mir.Val.{SFits, to_z, of_z}
 use Rattle.report.specs.declared.Report.{Report}
 use Rattle.machine_data.specs.declared.MachineData.{MachineData}
 use Rattle.machine_data.specs.Data.{entry_of}
@@ -23,20 +20,6 @@ apart_none a b e = sym (-ℤ-+ℤ_cancel a b) ∙ rw (abs_zero (a -ℤ b) e) (+�
 
 same_apart : (a b : ℤ) → a ≡ b → nat_abs (a -ℤ b) ≡ 0
 same_apart a b e = rw (e, +ℤ_invr b)
-
--- the code compares the bits
-pub differ : (a b : ℤ) → SFits w32 a → SFits w32 b → not (eqb (of_z w32 a) (of_z w32 b)) ≡ ltb 0 (nat_abs (a -ℤ b))
-differ a b f g = go (eqb (of_z w32 a) (of_z w32 b)) refl
-  where
-    go : (t : Bool) → eqb (of_z w32 a) (of_z w32 b) ≡ t → not t ≡ ltb 0 (nat_abs (a -ℤ b))
-    go true e =
-        let q : a ≡ b = sym (to_z-of_z f) ∙ ap (to_z w32) (eqb-true (of_z w32 a) (of_z w32 b) e) ∙ to_z-of_z g in
-        rw (same_apart a b q)
-    go false e = sym (lt-ltb 0 _ (above (nat_abs (a -ℤ b)) refl))
-      where
-        above : (n : ℕ) → nat_abs (a -ℤ b) ≡ n → 0 < n
-        above zero q = absurd (eqb-false _ _ e (ap (of_z w32) (apart_none a b q)))
-        above (suc n) q = omega arith
 
 -- "12 datum k differs"; W1: "cause 12 also stands where heads differ"
 module _ (m : MachineData) (k : ℕ) (o : Report) where

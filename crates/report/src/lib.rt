@@ -2,11 +2,11 @@
 #![tactic(auto)]
 
 ghost use Rattle.std.specs.Prelude.{◌≡◌};
-ghost use Rattle.machine_data.specs.Data.{lent};
+ghost use Rattle.machine_data.specs.Data.{list_of};
 ghost use Rattle.report.specs.Report.{next_k, report_of, datum_differs};
 
 use inputs::Reading;
-use machine_data::Values;
+use machine_data::Lent;
 use ranges::DATA;
 
 // The other channel's position, input word, datum k and head: how many data its list has.
@@ -22,31 +22,30 @@ pub struct Report {
 pub fn next_k(count: usize, k: u8) -> u8
     ensures { result ≡ next_k count k }
 {
-    let next = (k as usize) + 1;
-    if DATA <= next {
-        return 0;
+    let next = usize::from(k) + 1;
+    if next < DATA && next < count {
+        next as u8
+    } else {
+        0
     }
-    if next < count { next as u8 } else { 0 }
 }
 
 // What a channel with a list reports of a cycle, with its k from before it.
-pub fn report_of(values: &Values, count: usize, k: u8, reading: Reading) -> Report
-    ensures { result ≡ report_of (lent values.now count) k reading }
+pub fn report_of(list: Lent, k: u8, reading: Reading) -> Report
+    ensures { result ≡ report_of (list_of list.entry) k reading }
 {
     Report {
         position: reading.position,
         inputs: reading.inputs,
-        datum: machine_data::entry(values, k as usize),
-        head: count,
+        datum: machine_data::entry(list.values, usize::from(k)),
+        head: list.count,
     }
 }
 
 // Cause 12.
-pub fn datum_differs(values: &Values, count: usize, k: u8, report: Report) -> bool
-    ensures { result ≡ datum_differs (lent values.now count) k report }
+#[tactic(auto, unfolding(crate::specs::Report::datum_differs))]
+pub fn datum_differs(list: Lent, k: u8, report: Report) -> bool
+    ensures { result ≡ datum_differs (list_of list.entry) k report }
 {
-    if count != report.head {
-        return true;
-    }
-    machine_data::entry(values, k as usize) != report.datum
+    list.count != report.head || machine_data::entry(list.values, usize::from(k)) != report.datum
 }

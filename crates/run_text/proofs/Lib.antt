@@ -1,3 +1,1 @@
-pub mod Steps
-pub mod Going
-pub mod Texts
+pub mod Cycles

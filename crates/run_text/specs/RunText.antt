@@ -16,5 +16,11 @@ run_text words = lines_from 1 (take 7_020 words)
 
 -- ---- of the private functions
 
-abbrev pub line_at : List ℕ → ℕ → ℕ → Line
-line_at words at cycle = record { cycle = cycle; a = get_or words at 0; b = get_or words (at + 1) 0; device = get_or words (at + 2) 0 }
+-- the line of a cycle, counted from 0, by its three words
+abbrev pub line_of : ℕ → List ℕ → Line
+line_of i words = record { cycle = i + 1; a = get_or words 0 0; b = get_or words 1 0; device = get_or words 2 0 }
+
+-- the lines of cycles by their words, from cycle i on
+abbrev pub lines_of : ℕ → List (List ℕ) → List ℕ
+lines_of i [] = []
+lines_of i (words ∷ rest) = cycle_line (line_of i words) ++ lines_of (i + 1) rest

@@ -10,7 +10,6 @@ use Rattle.laws.proofs.Bools.{both, and_false}
 use Rattle.machine_data.specs.Data.{number_of}
 use Rattle.selection.specs.declared.Selection.{Selection}
 use Rattle.selection.specs.declared.Choice.{Choice}
-use Rattle.selection.proofs.Counts.{falls}
 use Rattle.selection.specs.Selection.{stricter, is_sbh, bound_of, delay_count, waited_of, choice_next}
 use Rattle.selection.specs.Chosen.{Chosen}
 
@@ -22,7 +21,11 @@ module _ (d : List ℤ) (x : Choice) (s : Selection) (position : ℤ) where
   sets_count e = rw e
 
   falling : 0 < x.left → delay_count d x.left ≡ x.left - 1
-  falling h = sym (falls d x.left (omega arith))
+  falling h = below x.left h
+    where
+      below : (n : ℕ) → 0 < n → delay_count d n ≡ n - 1
+      below zero h = absurd (omega arith)
+      below (suc n) h = omega arith
 
   -- s becomes effective
   bound : (lowered ≡ true → delay_count d x.left ≡ 0) → Chosen d x s position (bound_of x s position)

@@ -1,6 +1,4 @@
-pub mod Counts
 pub mod Order
 pub mod Chosen
 pub mod Numbered
-pub mod Same
 pub mod Effective

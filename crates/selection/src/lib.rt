@@ -2,13 +2,13 @@
 #![tactic(auto)]
 
 ghost use Rattle.std.specs.Prelude.{◌≡◌};
-ghost use Rattle.selection.specs.Selection.{selected_of, allowance_of, stricter, is_sg, same_sg, is_sbh, reference_of, bound_of, delay_count, waited_of, choice_next};
+ghost use Rattle.selection.specs.Selection.{selected_of, allowance_of, stricter, is_effective, reference_of, bound_of, delay_count, waited_of, choice_next};
 
 use inputs::Reading;
 use machine_data::{Values, functions, numbers};
 use speed::Sg;
 
-#[derive(Clone, Copy)]
+#[derive(Clone, Copy, PartialEq, Eq)]
 pub enum Selection {
     Nothing,
     // the SG's number less one, and the override's number
@@ -17,6 +17,7 @@ pub enum Selection {
 }
 
 // The effective selection, once one was made; SBH's reference; the cycles left of a lowering, 0 where none is under way.
+// `chosen` stands beside them, and not an Option around them: C's image of a channel holds both, and axis_monitor takes any.
 #[derive(Clone, Copy)]
 pub struct Choice {
     pub chosen: bool,
@@ -25,20 +26,26 @@ pub struct Choice {
     pub left: u32,
 }
 
+impl Selection {
+    // Whether SBH or SG.
+    pub fn is_effective(self) -> bool
+        ensures { result ≡ is_effective self }
+    {
+        self != Selection::Nothing
+    }
+}
+
 // What an input word selects.
+#[tactic(auto, unfolding(crate::specs::Selection::selected_of))]
 pub fn selected(values: &Values, word: u32) -> Selection
     ensures { result ≡ selected_of values.now word }
 {
-    if machine_data::function(values, functions::SBH_SG) {
-        if inputs::sbh_sg_off(word) {
-            Selection::Nothing
-        } else if inputs::sbh_off(word) {
-            Selection::Sg(inputs::sg_number(word), inputs::override_number(word))
-        } else {
-            Selection::Sbh
-        }
-    } else {
+    if !machine_data::function(values, functions::SBH_SG) || inputs::sbh_sg_off(word) {
         Selection::Nothing
+    } else if inputs::sbh_off(word) {
+        Selection::Sg(inputs::sg_number(word), inputs::override_number(word))
+    } else {
+        Selection::Sbh
     }
 }
 
@@ -53,50 +60,13 @@ fn allowance(values: &Values, s: Selection) -> u64
     }
 }
 
-fn is_sbh(s: Selection) -> bool
-    ensures { result ≡ is_sbh s }
-{
-    match s {
-        Selection::Nothing => false,
-        Selection::Sg(_, _) => false,
-        Selection::Sbh => true,
-    }
-}
-
-// Whether s is an SG with its override.
-fn is_sg(s: Selection, sg: Sg) -> bool
-    ensures { result ≡ is_sg sg.number sg.over s }
-{
-    match s {
-        Selection::Nothing => false,
-        Selection::Sg(number, over) => number == sg.number && over == sg.over,
-        Selection::Sbh => false,
-    }
-}
-
-// Whether both are the same SG with the same override: neither is the stricter.
-fn same_sg(s: Selection, e: Selection) -> bool
-    ensures { result ≡ same_sg s e }
-{
-    match s {
-        Selection::Nothing => false,
-        Selection::Sg(number, over) => is_sg(e, Sg { number, over }),
-        Selection::Sbh => false,
-    }
-}
-
 impl Choice {
     // SBH's reference is the position where SBH becomes effective.
     fn reference_of(self, s: Selection, reading: Reading) -> i32
         ensures { result ≡ reference_of self s reading.position }
     {
-        let e = self.effective;
-        if is_sbh(s) {
-            if is_sbh(e) {
-                self.reference
-            } else {
-                reading.position
-            }
+        if s == Selection::Sbh && self.effective != Selection::Sbh {
+            reading.position
         } else {
             self.reference
         }
@@ -118,11 +88,10 @@ impl Choice {
     fn count(self, values: &Values) -> u32
         ensures { result ≡ delay_count values.now self.left }
     {
-        let running = self.left;
-        if running == 0 {
+        if self.left == 0 {
             machine_data::cycles(values, numbers::DELAY)
         } else {
-            running - 1
+            self.left - 1
         }
     }
 
@@ -133,36 +102,28 @@ impl Choice {
         if left == 0 {
             return self.bound(s, reading);
         }
-        let e = self.effective;
         Choice {
             chosen: true,
-            effective: e,
-            reference: self.reference,
             left,
+            ..self
         }
     }
 
-    // Whether s is stricter than what is effective.
+    // Whether s is stricter than what is effective; the same selection is not, which is seen without its speed.
+    #[tactic(auto, unfolding(crate::specs::Selection::stricter))]
     fn lowered(self, values: &Values, s: Selection) -> bool
         ensures { result ≡ stricter values.now s self.effective }
     {
-        let e = self.effective;
-        if same_sg(s, e) {
-            return false;
-        }
-        allowance(values, s) < allowance(values, e)
+        s != self.effective && allowance(values, s) < allowance(values, self.effective)
     }
 
     // The choice after a usable cycle that selects s.
+    #[tactic(auto, unfolding(crate::specs::Selection::choice_next))]
     pub fn next(self, values: &Values, s: Selection, reading: Reading) -> Choice
         ensures { result ≡ choice_next values.now self s reading.position }
     {
-        if self.chosen {
-            if self.lowered(values, s) {
-                self.waited(s, reading, self.count(values))
-            } else {
-                self.bound(s, reading)
-            }
+        if self.chosen && self.lowered(values, s) {
+            self.waited(s, reading, self.count(values))
         } else {
             self.bound(s, reading)
         }

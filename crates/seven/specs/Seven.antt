@@ -1,12 +1,12 @@
 -- The words of a record by their kinds and unused bits: document 01, "kinds 4, 5, 6 of A, the same of B, then 7".
-use Rattle.std.specs.Prelude.{ℕ, ◌+◌, ◌*◌, ◌/◌, ◌%◌, Bool, cond, ◌&&◌, List, length, get_or, ℤ, ltb, eqb}
+use Rattle.std.specs.Prelude.{ℕ, ◌+◌, ◌*◌, ◌/◌, ◌%◌, Bool, cond, ◌&&◌, List, length, get_or, Option, Some, None, ℤ, ltb, eqb}
 use Rattle.words.specs.Words.{twos}
 use Rattle.inputs.specs.declared.Reading.{Reading}
 use Rattle.seven.specs.declared.CycleRecord.{CycleRecord}
 use Rattle.seven.specs.declared.Halves.{Halves}
 use Rattle.seven.specs.declared.Six.{Six}
 
--- the six words behind a place, and what stands there where one is missing
+-- the six words behind a place
 abbrev pub six_from : List ℕ → ℕ → Six
 six_from s at =
     record {
@@ -16,11 +16,9 @@ six_from s at =
       end = get_or s (at + 6) 0;
     }
 
-abbrev pub no_six : Six
-no_six = record { a = record { lower = 0; upper = 0 }; position = 0; b = record { lower = 0; upper = 0 }; end = 0 }
-
-unfoldable pub six_behind : List ℕ → ℕ → Six
-six_behind s at = cond (ltb (at + 6) (length s)) (six_from s at) no_six
+-- none, where one of them is missing
+unfoldable pub six_behind : List ℕ → ℕ → Option Six
+six_behind s at = cond (ltb (at + 6) (length s)) (Some (six_from s at)) None
 
 -- "kinds 5 and 6", "unused bits 0": 5 × 2^12 and 6 × 2^12 in the upper half
 unfoldable pub are_halves : Halves → Bool

@@ -31,13 +31,11 @@ pub struct Six {
 }
 
 // Whether two words are of kinds 5 and 6, with their unused bits 0.
+#[tactic(auto, unfolding(crate::specs::Seven::are_halves))]
 fn are_halves(halves: Halves) -> bool
     ensures { result ≡ are_halves halves }
 {
-    if halves.lower / 65536 != 20480 {
-        return false;
-    }
-    halves.upper / 65536 == 24576
+    halves.lower / 65536 == 20480 && halves.upper / 65536 == 24576
 }
 
 // What a position and an input word's two words hold.
@@ -50,63 +48,45 @@ fn reading_from(position: i32, halves: Halves) -> Reading
     }
 }
 
-// The six words behind a place; where one is missing all are 0, which no record has.
-pub fn six_behind(words: &[u32], at: usize) -> Six
+// The six words behind a place, where none is missing.
+pub fn six_behind(words: &[u32], at: usize) -> Option<Six>
     ensures { result ≡ six_behind words.now at }
 {
-    let zeros = Halves { lower: 0, upper: 0 };
-    let none = Six {
-        a: zeros,
-        position: 0,
-        b: zeros,
-        end: 0,
+    let &[_, lower_a, upper_a, position, lower_b, upper_b, end, ..] = words.get(at..)? else {
+        return None;
     };
-    if words.len() <= at {
-        return none;
-    }
-    if words.len() - at < 7 {
-        return none;
-    }
-    let a = Halves {
-        lower: words[at + 1],
-        upper: words[at + 2],
-    };
-    let b = Halves {
-        lower: words[at + 4],
-        upper: words[at + 5],
-    };
-    Six {
-        a,
-        position: words[at + 3],
-        b,
-        end: words[at + 6],
-    }
+    Some(Six {
+        a: Halves {
+            lower: lower_a,
+            upper: upper_a,
+        },
+        position,
+        b: Halves {
+            lower: lower_b,
+            upper: upper_b,
+        },
+        end,
+    })
 }
 
 // Whether six words are those of a record, by their kinds and unused bits.
+#[tactic(auto, unfolding(crate::specs::Seven::are_six))]
 pub fn are_six(six: Six) -> bool
     ensures { result ≡ are_six six }
 {
-    let a = six.a;
-    let b = six.b;
-    if six.position / 268435456 != 4 {
-        return false;
-    }
-    if six.end / 2 != 939524096 {
-        return false;
-    }
-    if are_halves(a) { are_halves(b) } else { false }
+    six.position / 268435456 == 4
+        && six.end / 2 == 939524096
+        && are_halves(six.a)
+        && are_halves(six.b)
 }
 
 // The record that a position and the six words behind it hold.
 pub fn record_of(position: i32, six: Six) -> CycleRecord
     ensures { result ≡ record_of position six }
 {
-    let a = six.a;
-    let b = six.b;
     CycleRecord {
-        a: reading_from(position, a),
-        b: reading_from(words::position_of(six.position), b),
+        a: reading_from(position, six.a),
+        b: reading_from(words::position_of(six.position), six.b),
         acknowledged: six.end % 2 == 1,
     }
 }

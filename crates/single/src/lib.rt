@@ -22,12 +22,10 @@ pub fn single(channel: Channel, given: Given, other: u32) -> SingleOutcome
     ensures { result ≡ single_of channel given other }
 {
     let outcome = channel::cycle(channel, given);
-    let after = outcome.channel;
-    let causes = outcome.causes;
     SingleOutcome {
-        channel: after,
+        channel: outcome.channel,
         word: outcome.word,
-        causes,
+        causes: outcome.causes,
         device: device::device_word(outcome.word, other),
     }
 }

@@ -21,6 +21,7 @@ pub struct Sg {
 }
 
 // The override percent of an SG: SG2 and SG4 have one, the others 100.
+#[tactic(auto, unfolding(crate::specs::Speed::percent_of))]
 fn sg_percent(values: &Values, sg: Sg) -> u64
     ensures { result ≡ percent_of values.now sg.number sg.over }
 {
@@ -32,6 +33,7 @@ fn sg_percent(values: &Values, sg: Sg) -> u64
 }
 
 // Limit × percent of an SG.
+#[tactic(auto, unfolding(crate::specs::Speed::speed_of))]
 pub fn sg_speed(values: &Values, sg: Sg) -> u64
     ensures { result ≡ speed_of values.now sg.number sg.over }
 {
@@ -43,8 +45,7 @@ fn load_step(step: Step) -> u64
     ensures value { result ≡ load_step step }
     ensures upper_bound { result ≤ 281470681677825 }
 {
-    let ratio = step.ratio;
-    (step.moved as u64) * (ratio.numerator as u64)
+    step.moved as u64 * step.ratio.numerator as u64
 }
 
 // The cycle's length, times the denominator: no more than 25 times 16 bits hold.
@@ -52,11 +53,11 @@ fn load_time(values: &Values, step: Step) -> u64
     ensures value { result ≡ load_time values.now step }
     ensures upper_bound { result ≤ 1638375 }
 {
-    let ratio = step.ratio;
-    machine_data::number(values, numbers::CYCLE_TIME) * (ratio.denominator as u64)
+    machine_data::number(values, numbers::CYCLE_TIME) * step.ratio.denominator as u64
 }
 
 // Whether a step is over the limit of an SG.
+#[tactic(auto, unfolding(crate::specs::Speed::too_fast))]
 pub fn too_fast(values: &Values, step: Step, sg: Sg) -> bool
     ensures { result ≡ too_fast values.now step sg.number sg.over }
 {
@@ -64,13 +65,15 @@ pub fn too_fast(values: &Values, step: Step, sg: Sg) -> bool
 }
 
 // Whether a step is below a speed.
+#[tactic(auto, unfolding(crate::specs::Speed::slower_than))]
 pub fn slower_than(values: &Values, step: Step, speed: u32) -> bool
     ensures { result ≡ slower_than values.now step speed }
 {
-    load_step(step) * 60 < (speed as u64) * load_time(values, step)
+    load_step(step) * 60 < speed as u64 * load_time(values, step)
 }
 
 // Whether it is below the speed that is datum k.
+#[tactic(auto, using(machine_data::proofs::Bounds::number_most))]
 pub fn slower(values: &Values, step: Step, k: usize) -> bool
     ensures { result ≡ slower values.now step k }
 {

@@ -1,6 +1,5 @@
 -- A fresh channel's state: document 01, "Safe inputs and reports", W3 and W6.
-use Rattle.std.specs.Prelude.{false, pos}
-use Rattle.distance.specs.declared.Previous.TheVariants.{Absent}
+use Rattle.std.specs.Prelude.{false, pos, None}
 use Rattle.directions.specs.Directions.{no_directions}
 use Rattle.selection.specs.declared.Selection.TheVariants.{Nothing}
 use Rattle.stop.specs.declared.Stop.TheVariants.{Free}
@@ -22,5 +21,5 @@ fresh_state =
             directions = no_directions;
           };
       stop = Free;
-      previous = Absent;
+      previous = None;
     }

@@ -5,7 +5,6 @@ ghost use Rattle.std.specs.Prelude.{◌≡◌};
 ghost use Rattle.state.specs.State.{fresh_state};
 
 use directions::Directions;
-use distance::Previous;
 use fault::Fault;
 use inputs::Reading;
 use nx_signal::Signal;
@@ -36,7 +35,7 @@ pub struct State {
     pub k: u8,
     pub kept: Kept,
     pub stop: Stop,
-    pub previous: Previous,
+    pub previous: Option<i32>,
 }
 
 // What a channel is given in a cycle.
@@ -67,7 +66,7 @@ impl State {
                 directions: Directions::none(),
             },
             stop: Stop::Free,
-            previous: Previous::Absent,
+            previous: None,
         }
     }
 }

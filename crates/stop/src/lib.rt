@@ -1,7 +1,7 @@
 // The stop state of a channel.
 #![tactic(auto)]
 
-ghost use Rattle.std.specs.Prelude.{◌≡◌, ◌-◌};
+ghost use Rattle.std.specs.Prelude.{◌≡◌};
 ghost use Rattle.speed.specs.Speed.{slower};
 ghost use Rattle.stop.specs.Stop.{rank_of, counted_of, held_at, braked_at, at_count, settled_of, stop_next};
 
@@ -22,20 +22,13 @@ pub enum Stop {
     Cancelled,
 }
 
-fn less_one(n: u32) -> u32
-    ensures { result ≡ n - 1 }
-{
-    if n == 0 { 0 } else { n - 1 }
-}
-
 impl Stop {
     pub fn rank(self) -> Rank
         ensures { result ≡ rank_of self }
     {
         match self {
             Stop::Free => Rank::None,
-            Stop::Braking(r, _) => r,
-            Stop::Held(r, _) => r,
+            Stop::Braking(r, _) | Stop::Held(r, _) => r,
             Stop::Cancelled => Rank::A,
         }
     }
@@ -55,9 +48,7 @@ impl Stop {
     fn braked_at(values: &Values, step: Step, n: u32) -> Stop
         ensures { result ≡ braked_at (slower values.now step 33) n }
     {
-        if n == 0 {
-            Stop::Cancelled
-        } else if speed::slower(values, step, numbers::SHUTDOWN_SPEED) {
+        if n == 0 || speed::slower(values, step, numbers::SHUTDOWN_SPEED) {
             Stop::Cancelled
         } else {
             Stop::Braking(Rank::B, n)
@@ -70,9 +61,7 @@ impl Stop {
     {
         match r {
             Rank::None => Stop::Free,
-            Rank::E => Stop::held_at(r, n, reading),
-            Rank::D => Stop::held_at(r, n, reading),
-            Rank::C => Stop::held_at(r, n, reading),
+            Rank::E | Rank::D | Rank::C => Stop::held_at(r, n, reading),
             Rank::B => Stop::braked_at(values, step, n),
             Rank::A => Stop::Cancelled,
         }
@@ -83,14 +72,13 @@ impl Stop {
         ensures { result ≡ settled_of (slower values.now step 33) reading.position (counted_of self) }
     {
         match self {
-            Stop::Free => self,
-            Stop::Braking(r, n) => Stop::at_count(values, step, reading, r, less_one(n)),
-            Stop::Held(_, _) => self,
-            Stop::Cancelled => self,
+            Stop::Braking(r, n) => { Stop::at_count(values, step, reading, r, n.saturating_sub(1)) }
+            Stop::Free | Stop::Held(_, _) | Stop::Cancelled => self,
         }
     }
 
     // Step 5 of a cycle with such a step of the axis.
+    #[tactic(auto, unfolding(crate::specs::Stop::stop_next))]
     pub fn next(
         self,
         values: &Values,
@@ -104,7 +92,7 @@ impl Stop {
         if clears {
             return Stop::Free;
         }
-        if self.rank().number() < strongest.number() {
+        if self.rank() < strongest {
             Stop::at_count(values, step, reading, strongest, strongest.time(values))
         } else {
             self.fallen(values, step, reading)

@@ -2,42 +2,30 @@
 #![tactic(auto)]
 
 ghost use Rattle.std.specs.Prelude.{◌≡◌, eqb};
-ghost use Rattle.machine_data.specs.Data.{has_ratios, function_of, lent};
+ghost use Rattle.machine_data.specs.Data.{has_ratios, function_of, list_of};
 ghost use Rattle.inputs.specs.Layout.{gear_number, direction_bits};
 ghost use Rattle.usable_inputs.specs.Usable.{spare_of, free, bits_usable, usable_of, direction_mask};
 
 use inputs::Reading;
-use machine_data::{Values, functions};
+use machine_data::{Lent, Values, functions};
 use ranges::heads;
 
 // Whether the bits of an input word that no safe input has are 0, one group after the other: they come to one test.
 fn spare_off(w: u32) -> bool
     ensures { result ≡ eqb (spare_of w) 0 }
 {
-    if w / 4 % 2 != 0 {
-        return false;
-    }
-    if w / 32 % 8 != 0 {
-        return false;
-    }
-    if w / 2048 % 2 != 0 {
-        return false;
-    }
-    if w / 32768 % 8 != 0 {
-        return false;
-    }
-    w / 4194304 % 64 == 0
+    w / 4 % 2 == 0
+        && w / 32 % 8 == 0
+        && w / 2048 % 2 == 0
+        && w / 32768 % 8 == 0
+        && w / 4194304 % 64 == 0
 }
 
 // Whether the gear's bits may stand as they do in a list of so many data.
 fn gear_usable(count: usize, w: u32) -> bool
     ensures { result ≡ free (has_ratios count) (gear_number w) }
 {
-    if heads::GEARS <= count {
-        true
-    } else {
-        inputs::gear_number(w) == 0
-    }
+    heads::GEARS <= count || inputs::gear_number(w) == 0
 }
 
 // The bits of safe direction, where they must be 0: without the function.
@@ -52,6 +40,7 @@ fn direction_mask(values: &Values) -> u32
 }
 
 // Whether the bits of safe direction may stand as they do. The mask is the same in all cycles of a log: there it is worked out once.
+#[tactic(auto, using(crate::proofs::Masks::masked))]
 fn direction_usable(values: &Values, w: u32) -> bool
     ensures { result ≡ free (function_of values.now 5) (direction_bits w) }
 {
@@ -59,26 +48,17 @@ fn direction_usable(values: &Values, w: u32) -> bool
 }
 
 // Whether all bits of an input word that a list gives no meaning are 0.
-fn bits_usable(values: &Values, count: usize, w: u32) -> bool
-    ensures { result ≡ bits_usable (lent values.now count) w }
+#[tactic(auto, unfolding(crate::specs::Usable::bits_usable))]
+fn bits_usable(list: Lent, w: u32) -> bool
+    ensures { result ≡ bits_usable (list_of list.entry) w }
 {
-    if spare_off(w) {
-        if direction_usable(values, w) {
-            gear_usable(count, w)
-        } else {
-            false
-        }
-    } else {
-        false
-    }
+    spare_off(w) && direction_usable(list.values, w) && gear_usable(list.count, w)
 }
 
 // Whether a channel with a list can use a reading.
-pub fn usable(values: &Values, count: usize, reading: Reading) -> bool
-    ensures { result ≡ usable_of (lent values.now count) reading }
+#[tactic(auto, unfolding(crate::specs::Usable::usable_of))]
+pub fn usable(list: Lent, reading: Reading) -> bool
+    ensures { result ≡ usable_of (list_of list.entry) reading }
 {
-    if 100000000 < distance::magnitude(reading.position as i64) {
-        return false;
-    }
-    bits_usable(values, count, reading.inputs)
+    reading.position.unsigned_abs() <= 100000000 && bits_usable(list, reading.inputs)
 }

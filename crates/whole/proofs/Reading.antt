@@ -12,8 +12,7 @@ use lib.Ieee.Fits.{down_pos}
 use lib.Ieee.Bits.{of_bits-to_bits}
 use lib.Ieee.Exact.{HasValue, odd_sign}
 use lib.Ieee.Nearest.{div_same}
-use Rattle.whole.specs.declared.Whole.{Whole}
-use Rattle.whole.specs.declared.Whole.TheVariants.{Is, Not}
+use Rattle.std.specs.Prelude.{Option, Some, None}
 use Rattle.whole.specs.Whole.{limit, exact, whole_of}
 use Rattle.whole.specs.Stands.{StandsFor}
 use Rattle.whole.specs.Bits.{whole_part, pattern_digits, part_of, with_sign, pattern_number, compared}
@@ -60,16 +59,16 @@ bits_give f x fit z h =
 -- ---- the law
 
 -- the comparison with z decides, if x can stand for nothing else
-decides : (x : Float) (z : ℤ) → nat_abs z ≤ limit → ((w : ℤ) → StandsFor x w → z ≡ w) → cond (eq x (exact z)) (Is z) Not ≡ whole_of x
+decides : (x : Float) (z : ℤ) → nat_abs z ≤ limit → ((w : ℤ) → StandsFor x w → z ≡ w) → cond (eq x (exact z)) (Some z) None ≡ whole_of x
 decides x z small only = go (eq x (exact z)) refl
   where
-    go : (b : Bool) → eq x (exact z) ≡ b → cond b (Is z) Not ≡ whole_of x
+    go : (b : Bool) → eq x (exact z) ≡ b → cond b (Some z) None ≡ whole_of x
     go true h = sym ((stands x z).1 (record { equals = subst T (sym h) tt; within = small }))
     go false h = other (whole_of x) refl
       where
-        other : (r : Whole) → whole_of x ≡ r → Not ≡ r
-        other Not q = refl
-        other (Is w) q =
+        other : (r : Option ℤ) → whole_of x ≡ r → None ≡ r
+        other None q = refl
+        other (Some w) q =
             let k = (stands x w).0 q in
             absurd (subst T h (subst (λ (y : ℤ). T (eq x (exact y))) (sym (only w k)) k.equals))
 
@@ -84,4 +83,4 @@ reading f x fit =
     let b = to_bits f x in
     let z = pattern_number f b in
     let small : nat_abs z ≤ limit = le_trans (le_of_eq (with_sign_size (leb (top f) b) (part_of f b))) (part_of_within f b) in
-    ap (λ (q : Bool). cond q (Is z) Not) (turned_back x z small) ∙ decides x z small (bits_give f x fit)
+    ap (λ (q : Bool). cond q (Some z) None) (turned_back x z small) ∙ decides x z small (bits_give f x fit)

@@ -1,9 +1,7 @@
 -- What the private functions work out from a float's bits. No public contract cites this file: that it comes to `whole_of` is proved.
-use Rattle.std.specs.Prelude.{ℕ, ◌+◌, ◌-◌, ◌*◌, ◌/◌, ◌%◌, ◌^◌, Bool, cond, ◌&&◌, ℤ, pos, neg_ℤ, leb, Float}
+use Rattle.std.specs.Prelude.{ℕ, ◌+◌, ◌-◌, ◌*◌, ◌/◌, ◌%◌, ◌^◌, ◌≡◌, Bool, cond, ◌&&◌, ℤ, pos, neg_ℤ, leb, Float, Option, Some, None, is_nan}
 use Rattle.std.specs.Float.{Format, binary32, binary64}
 use Rattle.std.specs.Float.Ieee.{emax, hid, top, eq, of_int}
-use Rattle.whole.specs.declared.Whole.{Whole}
-use Rattle.whole.specs.declared.Whole.TheVariants.{Is, Not}
 
 -- The whole part of (1 + t / 2 ^ 52) * 2 ^ (x - bias) if that is 1 or more and below 2 ^ 27, else 0.
 abbrev pub whole_part : ℕ → ℕ → ℕ → ℕ
@@ -27,5 +25,17 @@ abbrev pub pattern_number : Format → ℕ → ℤ
 pattern_number f b = with_sign (leb (top f) b) (part_of f b)
 
 -- z, if x equals z turned back into a binary64.
-abbrev pub compared : Float → ℤ → Whole
-compared x z = cond (eq x (of_int binary64 z)) (Is z) Not
+abbrev pub compared : Float → ℤ → Option ℤ
+compared x z = cond (eq x (of_int binary64 z)) (Some z) None
+
+-- Where a pattern of a format has its parts, as numbers: the leading digit's weight, the sign's, the exponent field of 1.0, and what makes digits those
+-- of a binary64.
+pub record Layout (f : Format) (lead sign bias spread : ℕ) : Type 0 where
+  pub lead_is : lead ≡ hid f
+  pub sign_is : sign ≡ top f
+  pub bias_is : bias ≡ emax f
+  pub spread_is : (t : ℕ) → t * spread ≡ pattern_digits f t
+
+-- A float that is a number, or none.
+abbrev pub unless_nan : Float → Option Float
+unless_nan x = cond (is_nan x) None (Some x)

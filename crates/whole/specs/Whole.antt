@@ -1,9 +1,7 @@
 -- The whole number that a float stands for.
-use Rattle.std.specs.Prelude.{ℕ, suc, true, false, cond, ◌&&◌, ℤ, pos, negsuc, nat_abs, leb, Float}
+use Rattle.std.specs.Prelude.{ℕ, suc, true, false, cond, ◌&&◌, ℤ, pos, negsuc, nat_abs, leb, Float, Option, Some, None}
 use Rattle.std.specs.Float.{fin}
 use Rattle.std.specs.Float.Ieee.{eq, to_signed}
-use Rattle.whole.specs.declared.Whole.{Whole}
-use Rattle.whole.specs.declared.Whole.TheVariants.{Is, Not}
 
 -- "of magnitude at most 134,217,727"
 abbrev pub limit : ℕ
@@ -16,6 +14,6 @@ exact (negsuc n) = fin true (suc n) (pos 0)
 
 -- "A float stands for a whole number if it equals one of magnitude at most 134,217,727; minus zero stands for 0."
 -- The only one that x can equal is x cut toward zero.
-unfoldable pub whole_of : Float → Whole
+unfoldable pub whole_of : Float → Option ℤ
 unfolding to_signed eq
-whole_of x = let z = to_signed 31 x in cond (eq x (exact z) && leb (nat_abs z) limit) (Is z) Not
+whole_of x = let z = to_signed 31 x in cond (eq x (exact z) && leb (nat_abs z) limit) (Some z) None

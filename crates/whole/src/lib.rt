@@ -1,55 +1,135 @@
 // The whole number that a float stands for, at both widths: worked out from the bits, turned back by `as` and compared exactly.
 #![tactic(auto)]
 
-ghost use Rattle.std.specs.Prelude.{◌≡◌, ◌^◌, ◌≤◌, ◌<◌};
-ghost use Rattle.std.specs.Float.{binary32, binary64};
-ghost use Rattle.std.specs.Float.Ieee.{of_bits};
+ghost use Rattle.std.specs.Prelude.{◌≡◌, ℕ, ◌^◌, ◌≤◌, ◌<◌, refl, to_bits, T, Float};
+ghost use Rattle.std.specs.Float.{Format, NotNan, binary32, binary64};
+ghost use Rattle.std.specs.Float.Ieee.{of_bits, nan_bits, fits};
 ghost use Rattle.whole.specs.Whole.{limit, whole_of};
-ghost use Rattle.whole.specs.Bits.{whole_part, with_sign, pattern_number, compared};
+ghost use Rattle.whole.specs.Bits.{Layout, unless_nan, whole_part, with_sign, pattern_number, compared};
+ghost use Rattle.std.proofs.Common.{mul-one};
 
-// A float stands for a whole number or for none.
-#[derive(Clone, Copy)]
-pub enum Whole {
-    Is(i32),
-    Not,
+// A float of one of the formats, by its pattern: the digits behind the leading one are lowest, above them the exponent field, then the sign.
+pub trait Binary: Copy {
+    // The leading digit's weight: the digits stand below it, and the exponent field from there on.
+    const LEAD: u64;
+
+    const SIGN: u64;
+
+    // The exponent field of 1.0.
+    const BIAS: u32;
+
+    // Digits times this are the digits of the same number as a binary64.
+    const SPREAD: u64;
+
+    ghost LEAD: { ℕ };
+
+    ghost SIGN: { ℕ };
+
+    ghost BIAS: { ℕ };
+
+    ghost SPREAD: { ℕ };
+
+    ghost format: { Format };
+
+    ghost value: { Self → Float };
+
+    // The same number as a binary64, unless it is a NaN.
+    fn wide(self) -> Option<f64>
+        ensures { result ≡ unless_nan (value self) };
+
+    // `to_bits` is undefined at a NaN.
+    fn pattern(self) -> u64
+        requires { NotNan (value self) }
+        ensures bits { result ≡ to_bits format (value self) }
+        ensures fits { T (fits format (value self)) };
+
+    ghost layout: { Layout format LEAD SIGN BIAS SPREAD };
 }
 
-// The digits of a significand behind its leading one.
-const SINGLE_DIGITS: u32 = 23;
+impl Binary for f32 {
+    const LEAD: u64 = 1 << 23;
 
-const DOUBLE_DIGITS: u32 = 52;
+    const SIGN: u64 = 1 << 31;
 
-// The exponent field of 1.0.
-const SINGLE_BIAS: u32 = 127;
+    const BIAS: u32 = 127;
 
-const DOUBLE_BIAS: u32 = 1023;
+    const SPREAD: u64 = 1 << 29;
 
-// The leading digit's weight. In a pattern the digits stand below it, and the exponent field from there on.
-const SINGLE_LEAD: u32 = 1 << SINGLE_DIGITS;
+    ghost LEAD = { 8388608 };
 
-const DOUBLE_LEAD: u64 = 1 << DOUBLE_DIGITS;
+    ghost SIGN = { 2147483648 };
 
-// The sign bit, above the exponent field.
-const SINGLE_SIGN: u32 = 1 << 31;
+    ghost BIAS = { 127 };
 
-const DOUBLE_SIGN: u64 = 1 << 63;
+    ghost SPREAD = { 536870912 };
 
-// The pattern of infinity: an exponent field of ones and no digits. With digits it is a NaN's.
-const SINGLE_INFINITY: u32 = (2 * SINGLE_BIAS + 1) << SINGLE_DIGITS;
+    ghost format = { binary32 };
 
-const DOUBLE_INFINITY: u64 = (2 * DOUBLE_BIAS as u64 + 1) << DOUBLE_DIGITS;
+    ghost value = { λ x. x };
 
-// A binary32's digits times this are the digits of the same number as a binary64.
-const SPREAD: u64 = 1 << (DOUBLE_DIGITS - SINGLE_DIGITS);
+    ghost layout = { record { lead_is = refl; sign_is = refl; bias_is = refl; spread_is = λ t. refl } };
+
+    fn wide(self) -> Option<f64> {
+        if self.is_nan() {
+            None
+        } else {
+            Some(self as f64)
+        }
+    }
+
+    fn pattern(self) -> u64 {
+        u64::from(self.to_bits())
+    }
+}
+
+impl Binary for f64 {
+    const LEAD: u64 = 1 << 52;
+
+    const SIGN: u64 = 1 << 63;
+
+    const BIAS: u32 = 1023;
+
+    const SPREAD: u64 = 1;
+
+    ghost LEAD = { 4503599627370496 };
+
+    ghost SIGN = { 9223372036854775808 };
+
+    ghost BIAS = { 1023 };
+
+    ghost SPREAD = { 1 };
+
+    ghost format = { binary64 };
+
+    ghost value = { λ x. x };
+
+    ghost layout = { record { lead_is = refl; sign_is = refl; bias_is = refl; spread_is = λ t. mul-one t } };
+
+    fn wide(self) -> Option<f64> {
+        if self.is_nan() { None } else { Some(self) }
+    }
+
+    fn pattern(self) -> u64 {
+        self.to_bits()
+    }
+}
 
 // The largest power of 2 within the limit is 2^26, for the limit is 2^27 - 1.
 const LARGEST_POWER: u32 = 26;
 
+// Infinity's pattern has an exponent field of ones and no digits; one above it, but for the sign, is a NaN's.
+fn is_nan_pattern<F: Binary>(bits: u64) -> bool
+    ensures { result ≡ nan_bits F.format bits }
+{
+    F::SIGN - F::LEAD < bits % F::SIGN
+}
+
 // The float of a bit pattern, as IEEE 754 has it. `from_bits` is undefined at a NaN's, so a comparison finds those, and 0 / 0 makes the NaN.
+// Two functions and no method of the trait: a pattern is a u32 or a u64, and each has its own body either way.
 pub fn single(bits: u32) -> f32
     ensures { result ≡ of_bits binary32 bits }
 {
-    if SINGLE_INFINITY < bits % SINGLE_SIGN {
+    if is_nan_pattern::<f32>(u64::from(bits)) {
         0.0f32 / 0.0f32
     } else {
         f32::from_bits(bits)
@@ -59,60 +139,35 @@ pub fn single(bits: u32) -> f32
 pub fn double(bits: u64) -> f64
     ensures { result ≡ of_bits binary64 bits }
 {
-    if DOUBLE_INFINITY < bits % DOUBLE_SIGN {
+    if is_nan_pattern::<f64>(bits) {
         0.0f64 / 0.0f64
     } else {
         f64::from_bits(bits)
     }
 }
 
-// The whole number that x stands for. Only a NaN differs from itself.
-pub fn whole_single(x: f32) -> Whole
-    ensures { result ≡ whole_of x }
+// The whole number that x stands for.
+pub fn whole<F: Binary>(x: F) -> Option<i32>
+    ensures { result ≡ whole_of (F.value x) }
 {
-    if x != x {
-        return Whole::Not; // `to_bits` is undefined at a NaN
-    }
-    let z = number_single(f32::to_bits(x));
-    compared(x as f64, z)
-}
-
-pub fn whole_double(x: f64) -> Whole
-    ensures { result ≡ whole_of x }
-{
-    if x != x {
-        return Whole::Not;
-    }
-    let z = number_double(f64::to_bits(x));
-    compared(x, z)
+    let wide = x.wide()?;
+    compared(wide, number_of::<F>(x.pattern()))
 }
 
 // z, if x equals z turned back. A binary64 holds every z; a binary32 doesn't, so both widths are compared here.
-fn compared(x: f64, z: i32) -> Whole
+fn compared(x: f64, z: i32) -> Option<i32>
     ensures { result ≡ compared x z }
 {
-    if x == z as f64 {
-        Whole::Is(z)
-    } else {
-        Whole::Not
-    }
+    (x == z as f64).then_some(z)
 }
 
 // The number of a bit pattern, without its fraction.
-fn number_single(bits: u32) -> i32
-    ensures { result ≡ pattern_number binary32 bits }
+fn number_of<F: Binary>(bits: u64) -> i32
+    ensures { result ≡ pattern_number F.format bits }
 {
-    let field = bits % SINGLE_SIGN / SINGLE_LEAD;
-    let digits = (bits % SINGLE_LEAD) as u64 * SPREAD;
-    with_sign(SINGLE_SIGN <= bits, whole_part(field, SINGLE_BIAS, digits))
-}
-
-fn number_double(bits: u64) -> i32
-    ensures { result ≡ pattern_number binary64 bits }
-{
-    let field = (bits % DOUBLE_SIGN / DOUBLE_LEAD) as u32;
-    let digits = bits % DOUBLE_LEAD;
-    with_sign(DOUBLE_SIGN <= bits, whole_part(field, DOUBLE_BIAS, digits))
+    let field = (bits % F::SIGN / F::LEAD) as u32;
+    let digits = bits % F::LEAD * F::SPREAD;
+    with_sign(F::SIGN <= bits, whole_part(field, F::BIAS, digits))
 }
 
 // The whole part of a magnitude, from its exponent field and its digits as a binary64; 0 if it is beyond the limit.
@@ -121,14 +176,10 @@ fn whole_part(field: u32, bias: u32, digits: u64) -> u32
     ensures value { result ≡ whole_part field bias digits }
     ensures upper_bound { result ≤ limit }
 {
-    if field < bias {
+    if field < bias || LARGEST_POWER < field - bias {
         return 0;
     }
-    let power = field - bias;
-    if LARGEST_POWER < power {
-        return 0;
-    }
-    ((DOUBLE_LEAD + digits) >> (DOUBLE_DIGITS - power)) as u32
+    ((<f64 as Binary>::LEAD + digits) >> (52 - (field - bias))) as u32
 }
 
 fn with_sign(negative: bool, n: u32) -> i32

@@ -5,6 +5,7 @@ use mathlib.Core.List.{List, ◌∷◌}
 use Prim.Native.Nat.{ℕ, ◌+◌, ◌<◌}
 use lib.ListN.{length, get_or, drop}
 use lib.Dec.{T, eqb, eqb→eq}
+use Rattle.words.specs.declared.Form.{Form}
 use Rattle.words.specs.declared.Word.{Word}
 use Rattle.words.specs.declared.Word.TheVariants.{Head, Datum, Piece, Other}
 use Rattle.words.specs.Words.{word_at}
@@ -62,10 +63,10 @@ held_piece x t = let h = fitting (case_piece x (λ b. true) false) t in (h.0, h.
 pub other_piece : {A : Type 0} (x : Word) (held : ℕ → A) (other : A) → fits a_piece x ≡ false → if_piece x held other ≡ other
 other_piece x held other = wanting (λ b. true) held (case_piece x held other) (fits a_piece) (λ b. refl)
 
-pub held_datum : (n : ℕ) (x : Word) → T (fits (a_datum n) x) → (f : ℕ) × (x ≡ Datum n f)
+pub held_datum : (n : ℕ) (x : Word) → T (fits (a_datum n) x) → (f : Form) × (x ≡ Datum n f)
 held_datum n x t =
     let h = fitting (case_datum x (λ k f. eqb k n) false) t in
     (h.0.1, h.1 ∙ ap (λ (i : ℕ). Datum i h.0.1) (eqb→eq h.0.0 n h.2))
 
-pub other_datum : {A : Type 0} (n : ℕ) (x : Word) (held : ℕ → A) (other : A) → fits (a_datum n) x ≡ false → if_datum x (λ k f. cond (eqb k n) (held f) other) other ≡ other
-other_datum n x held other = wanting (λ (b : ℕ × ℕ). eqb b.0 n) (λ b. held b.1) (case_datum x _ other) (fits (a_datum n)) (λ b. refl)
+pub other_datum : {A : Type 0} (n : ℕ) (x : Word) (held : Form → A) (other : A) → fits (a_datum n) x ≡ false → if_datum x (λ k f. cond (eqb k n) (held f) other) other ≡ other
+other_datum n x held other = wanting (λ (b : ℕ × Form). eqb b.0 n) (λ b. held b.1) (case_datum x _ other) (fits (a_datum n)) (λ b. refl)

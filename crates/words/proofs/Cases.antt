@@ -7,6 +7,7 @@ use lib.ListN.{length, get_or}
 use lib.Dec.{T, ltb}
 use borrow.Author.Tests.{ltb-true}
 use lib.IntN.{ℤ}
+use Rattle.words.specs.declared.Form.{Form}
 use Rattle.words.specs.declared.Word.{Word}
 use Rattle.words.specs.declared.Word.TheVariants.{Head, Datum, Piece, Position, Lower, Upper, End, Remark, Other}
 use Rattle.words.specs.Cases.{if_head, if_datum, if_piece, if_position, if_lower, if_upper, if_end, if_remark}
@@ -29,7 +30,7 @@ case_head (End a) held other = missed refl
 case_head Remark held other = missed refl
 case_head Other held other = missed refl
 
-pub case_datum : {A : Type 0} (x : Word) (held : ℕ → ℕ → A) (other : A) → Case {B = ℕ × ℕ} (λ y. if_datum y (λ k f. true) false) (λ b. Datum b.0 b.1) x (λ b. held b.0 b.1) other (if_datum x held other)
+pub case_datum : {A : Type 0} (x : Word) (held : ℕ → Form → A) (other : A) → Case {B = ℕ × Form} (λ y. if_datum y (λ k f. true) false) (λ b. Datum b.0 b.1) x (λ b. held b.0 b.1) other (if_datum x held other)
 case_datum (Head n) held other = missed refl
 case_datum (Datum k f) held other = met (k, f) refl
 case_datum (Piece b) held other = missed refl
@@ -139,10 +140,10 @@ no_head x h held other = left_out (case_head x held other) h
 pub is_head_lem : {A : Type 0} (x : Word) (held : ℕ → A) (other r : A) → if_head x held other ≡ r → (other ≡ r → ⊥) → (n : ℕ) × (x ≡ Head n) × (held n ≡ r)
 is_head_lem x held other r e apart = from_held (case_head x held other) e apart
 
-pub no_datum : {A : Type 0} (x : Word) → ((n form : ℕ) → x ≡ Datum n form → ⊥) → (held : ℕ → ℕ → A) (other : A) → other ≡ if_datum x held other
+pub no_datum : {A : Type 0} (x : Word) → ((n : ℕ) (form : Form) → x ≡ Datum n form → ⊥) → (held : ℕ → Form → A) (other : A) → other ≡ if_datum x held other
 no_datum x h held other = left_out (case_datum x held other) (λ b. h b.0 b.1)
 
-pub is_datum : {A : Type 0} (x : Word) (held : ℕ → ℕ → A) (other r : A) → if_datum x held other ≡ r → (other ≡ r → ⊥) → (n : ℕ) × (form : ℕ) × (x ≡ Datum n form) × (held n form ≡ r)
+pub is_datum : {A : Type 0} (x : Word) (held : ℕ → Form → A) (other r : A) → if_datum x held other ≡ r → (other ≡ r → ⊥) → (n : ℕ) × (form : Form) × (x ≡ Datum n form) × (held n form ≡ r)
 is_datum x held other r e apart = let h = from_held (case_datum x held other) e apart in (h.0.0, h.0.1, h.1, h.2)
 
 pub no_piece : {A : Type 0} (x : Word) → ((b : ℕ) → x ≡ Piece b → ⊥) → (held : ℕ → A) (other : A) → other ≡ if_piece x held other

@@ -12,7 +12,7 @@ use borrow.Author.Tests.{ltb-true, eqb-true, lt-ltb}
 use Rattle.laws.proofs.Bools.{both}
 use Rattle.words.specs.declared.Word.{Word}
 use Rattle.words.specs.declared.Word.TheVariants.{Datum, Piece, Other}
-use Rattle.words.specs.Words.{datum_word, by_kind, word_of, word_at}
+use Rattle.words.specs.Words.{form_of, datum_word, by_kind, word_of, word_at}
 use Rattle.words.specs.IsWord.{kinded, IsWord, head, datum, piece, position, lower, upper, end, remark}
 
 -- ---- what is written is read
@@ -27,7 +27,7 @@ by_parts : (k v : ℕ) → v < 268435456 → word_of (kinded k v) ≡ by_kind k 
 unfolding word_of
 by_parts k v h = λ i. by_kind (kind_of k v h i) (value_of k v h i)
 
-datum_parts : (k f : ℕ) → k < 256 → f < 4 → datum_word (k * 65536 + f) ≡ Datum k f
+datum_parts : (k f : ℕ) → k < 256 → f < 4 → datum_word (k * 65536 + f) ≡ Datum k (form_of f)
 unfolding datum_word
 datum_parts k f hk hf =
     let number : (k * 65536 + f) / 65536 ≡ k = omega arith in
@@ -72,10 +72,10 @@ known_kind k v small =
         go true e = subst (λ (i : ℕ). Known (kinded i v) x) (sym (eqb-true k n e)) this
         go false e = other
 
-    datum_held : ltb (v / 65536) 256 && ltb (v % 65536) 4 ≡ true → IsWord (kinded 2 v) (Datum (v / 65536) (v % 65536))
+    datum_held : ltb (v / 65536) 256 && ltb (v % 65536) 4 ≡ true → IsWord (kinded 2 v) (Datum (v / 65536) (form_of (v % 65536)))
     datum_held e =
         let t = both (ltb (v / 65536) 256) (ltb (v % 65536) 4) e in
-        subst (λ (n : ℕ). IsWord (kinded 2 n) (Datum (v / 65536) (v % 65536))) (div-add-mod' v 65536)
+        subst (λ (n : ℕ). IsWord (kinded 2 n) (Datum (v / 65536) (form_of (v % 65536)))) (div-add-mod' v 65536)
         (datum (ltb-true (v / 65536) 256 t.0) (ltb-true (v % 65536) 4 t.1))
 
 pub known : (w : ℕ) → Known w (word_of w)

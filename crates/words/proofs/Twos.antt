@@ -1,48 +1,30 @@
--- Two's complement as the code works it out: the way down from -1, and in 28 bits by half the width added first and taken off last. Assumes nothing.
+-- Two's complement as the code works it out: in 32 bits by the library's cast, and in 28 by half the width added first and taken off last. Assumes nothing.
 use mathlib.Core.Path.{◌≡◌, refl, sym, ap, ◌∙◌, subst}
-use Prim.Native.Nat.{ℕ, zero, suc, ◌+◌, ◌-◌, ◌*◌, ◌%◌, ◌≤◌, ◌<◌}
+use Prim.Native.Nat.{ℕ, zero, suc, ◌+◌, ◌-◌, ◌%◌, ◌≤◌, ◌<◌}
 use native.Mathlib.Omega.{arith}
 use lib.IntN.{ℤ, pos, negsuc, ◌-ℤ◌}
 use mir.Syntax.{w32}
-use mir.Val.{SFits, to_z, of_z}
-use mir.ValLaws.{to_z_pos, to_z-of_z}
+use mir.Val.{SFits, to_z}
+use Rattle.std.specs.Int.{cast_signed}
+use mir.ValLaws.{to_z_pos}
 use mathlib.Core.Bool.{Bool, true, false, cond}
 use lib.Dec.{ltb}
 use borrow.Author.Tests.{lt-ltb, le-ltb, ltb-true, ltb-false}
 use Rattle.words.specs.Words.{twos}
 
-down : (k : ℕ) → negsuc 0 -ℤ pos k ≡ negsuc k
-down zero = refl
-down (suc n) = ap (λ (k : ℕ). negsuc (suc k)) (go n)
-  where
-    go : (a : ℕ) → 0 + a ≡ a
-    go a = omega arith
-
 less : (b m : ℕ) → b < m → pos b -ℤ pos m ≡ negsuc (m - suc b)
 less b zero h = elim h [ ]
 less b (suc m) h = simp (lt-ltb _ _ h)
 
-module _ (half b : ℕ) (small : half ≤ 2147483648) (in-width : b < 2 * half) where
-  module _ (upper : half ≤ b) where
-    left : ℕ
-    left = half - 1 - (b - half)
+-- ---- in 32 bits
 
-    goes_down : negsuc 0 -ℤ to_z w32 (half - 1 - (b - half)) ≡ negsuc (2 * half - suc b)
-    goes_down =
-        ap (λ (z : ℤ). negsuc 0 -ℤ z) (to_z_pos w32 (half - 1 - (b - half)) (omega arith))
-        ∙ down (half - 1 - (b - half))
-        ∙ ap negsuc (omega arith)
-
-    pub negative_fits : SFits w32 (negsuc 0 -ℤ to_z w32 (half - 1 - (b - half)))
-    negative_fits = subst (λ (z : ℤ). SFits w32 z) (sym goes_down) (record { sfits = omega arith })
-
-    pub negative : to_z w32 (of_z w32 (negsuc 0 -ℤ to_z w32 (half - 1 - (b - half)))) ≡ twos half b
-    unfolding twos
-    negative = to_z-of_z w32 _ negative_fits ∙ goes_down ∙ sym (simp (le-ltb _ _ upper) (less b (2 * half) in-width))
-
-  pub positive : b < half → to_z w32 b ≡ twos half b
-  unfolding twos
-  positive h = to_z_pos w32 b (omega arith) ∙ simp (lt-ltb _ _ h)
+pub casts : (b : ℕ) → b < 4294967296 → cast_signed w32 b ≡ twos 2147483648 b
+unfolding twos
+casts b h = go (ltb b 2147483648)
+  where
+    go : (t : Bool) → cond t (pos b) (negsuc (4294967296 - suc b)) ≡ cond t (pos b) (pos b -ℤ pos 4294967296)
+    go true = refl
+    go false = sym (less b 4294967296 h)
 
 -- ---- in 28 bits
 

@@ -1,12 +1,13 @@
 -- A word that must be of one kind: what it holds is handed on, and any other word gives `other`.
 use Rattle.std.specs.Prelude.{ℕ, Bool, ℤ}
+use Rattle.words.specs.declared.Form.{Form}
 use Rattle.words.specs.declared.Word.{Word}
 use Rattle.words.specs.declared.Word.TheVariants.{Head, Datum, Piece, Position, Lower, Upper, End, Remark, Other}
 
 abbrev pub if_head : {A : Type 0} → Word → (ℕ → A) → A → A
 if_head x held other = elim x [ Head n ↦ held n | Datum k f ↦ other | Piece b ↦ other | Position z ↦ other | Lower b ↦ other | Upper b ↦ other | End a ↦ other | Remark ↦ other | Other ↦ other ]
 
-abbrev pub if_datum : {A : Type 0} → Word → (ℕ → ℕ → A) → A → A
+abbrev pub if_datum : {A : Type 0} → Word → (ℕ → Form → A) → A → A
 if_datum x held other = elim x [ Head n ↦ other | Datum k f ↦ held k f | Piece b ↦ other | Position z ↦ other | Lower b ↦ other | Upper b ↦ other | End a ↦ other | Remark ↦ other | Other ↦ other ]
 
 abbrev pub if_piece : {A : Type 0} → Word → (ℕ → A) → A → A

@@ -1,5 +1,7 @@
 -- The words of lists and logs: document 01, "Words".
-use Rattle.std.specs.Prelude.{ℕ, ◌*◌, ◌/◌, ◌%◌, cond, ◌&&◌, List, length, get_or, ℤ, pos, ◌-ℤ◌, ltb, eqb}
+use Rattle.std.specs.Prelude.{ℕ, zero, suc, ◌*◌, ◌/◌, ◌%◌, cond, ◌&&◌, List, length, get_or, ℤ, pos, ◌-ℤ◌, ltb, eqb, Option, Some, None}
+use Rattle.words.specs.declared.Form.{Form}
+use Rattle.words.specs.declared.Form.TheVariants.{Whole, Single, Double, Open}
 use Rattle.words.specs.declared.Word.{Word}
 use Rattle.words.specs.declared.Word.TheVariants.{Head, Datum, Piece, Position, Lower, Upper, End, Remark, Other}
 
@@ -7,9 +9,20 @@ use Rattle.words.specs.declared.Word.TheVariants.{Head, Datum, Piece, Position, 
 unfoldable pub twos : ℕ → ℕ → ℤ
 twos half b = cond (ltb b half) (pos b) (pos b -ℤ pos (2 * half))
 
+-- "forms 0 (two's complement), 1, 2 .. Form 3 is open"; 1 and 2 are "a binary32 or a binary64"
+abbrev pub form_of : ℕ → Form
+form_of zero = Whole
+form_of (suc zero) = Single
+form_of (suc (suc zero)) = Double
+form_of (suc (suc (suc n))) = Open
+
+-- a form's number has two bits
+abbrev pub numbered_form : ℕ → Option Form
+numbered_form n = cond (ltb n 4) (Some (form_of n)) None
+
 -- "Kind 2: datum, number in bits 16-23, form in bits 0-1", "unused bits 0"
 unfoldable pub datum_word : ℕ → Word
-datum_word v = cond (ltb (v / 65536) 256 && ltb (v % 65536) 4) (Datum (v / 65536) (v % 65536)) Other
+datum_word v = cond (ltb (v / 65536) 256 && ltb (v % 65536) 4) (Datum (v / 65536) (form_of (v % 65536))) Other
 
 -- "Kind 1: list head", whose value is the number of data; "Kind 3: piece, 16 bits"; "Kind 4: position, 28 bits two's complement";
 -- "Kinds 5 and 6: lower and upper 16 bits of the input word"; "Kind 7: cycle end, bit 0 acknowledges"; "Kind 15: remark"

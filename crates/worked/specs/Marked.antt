@@ -1,13 +1,12 @@
 -- Document 01, "Marked P": one table of worked cases. "T is 12".
-use Rattle.std.specs.Prelude.{ℕ, suc, ◌-◌, Bool, true, false, List, [], ◌∷◌, ◌≡◌, ℤ, pos, negsuc, length}
+use Rattle.std.specs.Prelude.{ℕ, suc, ◌-◌, Bool, true, false, List, [], ◌∷◌, ◌≡◌, ℤ, pos, negsuc, length, Result, Ok, Err}
 use Rattle.std.specs.Float.{binary32}
 use Rattle.std.specs.Float.Ieee.{of_bits}
 use Rattle.bits.specs.Bits.{flag}
 use Rattle.machine_data.specs.declared.MachineData.{MachineData}
+use Rattle.refusal.specs.declared.Refusal.{Refusal}
 use Rattle.refusal.specs.declared.Refusal.TheVariants.{NoWholeNumber}
 use Rattle.datum.specs.declared.Datum.TheVariants.{Single}
-use Rattle.datum.specs.declared.Units.{Units}
-use Rattle.datum.specs.declared.Units.TheVariants.{Are, Refused}
 use Rattle.datum.specs.Datum.{units_of}
 use Rattle.seven.specs.declared.CycleRecord.{CycleRecord}
 use Rattle.selection.specs.declared.Selection.{Selection}
@@ -28,7 +27,7 @@ pub data Shown : Type 0 where
 
 pub data Case : Type 0 where
   -- the pattern of a binary32, and what the list reader makes of it, the datum standing at place 0
-  binary32_is : ℕ → Units → Case
+  binary32_is : ℕ → Result ℤ Refusal → Case
   -- a list, cycles from a fresh channel on, and what the last of them shows
   cycles : List Entry → List CycleRecord → Shown → Case
 
@@ -92,9 +91,9 @@ table =
     -- "P8 100,000,001 is unusable"
     ∷ P 8 (steps (is 0 12 ∷ []) off (pos 100_000_001) (cause 1 true))
     -- "P9 binary32 44FA0000 is 2000"
-    ∷ P 9 (binary32_is 0x44fa0000 (Are (pos 2000)))
+    ∷ P 9 (binary32_is 0x44fa0000 (Ok (pos 2000)))
     -- "P10 3F000000 is refused 3"
-    ∷ P 10 (binary32_is 0x3f000000 (Refused (NoWholeNumber 0)))
+    ∷ P 10 (binary32_is 0x3f000000 (Err (NoWholeNumber 0)))
     -- "P11 E and C together: C"
     ∷ P 11 (cycles (is 0 12 ∷ is 1 16 ∷ is 29 5 ∷ is 31 5 ∷ []) (alike (pos 0) stop_c_and_e ∷ []) (rank 3))
     -- "P12 B time 0: A that cycle"

@@ -9,4 +9,4 @@ pub returns : goal.returns
 unfolding unusable_leaves
 returns c =
     let a = c.args in
-    way_left false a.count a.state.now {v = a.state.now} c.skipped-idle.ensures c.list_unusable.ensures refl (refl, refl) c.put_front.ensures
+    way_left false a.list.count a.state.now {v = a.state.now} c.skipped-idle.ensures c.list_unusable.ensures refl (refl, refl) c.put_front.ensures

@@ -1,6 +1,6 @@
 -- `axis_monitor::usable_cycle` meets its contract. Assumes nothing.
 use mathlib.Core.Path.{◌≡◌, ap, ◌∙◌}
-use Rattle.machine_data.specs.Data.{lent, function_of}
+use Rattle.machine_data.specs.Data.{list_of, function_of}
 use Rattle.causes.specs.Causes.{summary_of}
 use Rattle.codes.specs.Codes.{causes_of}
 use Rattle.judge.specs.declared.Findings.{Findings}
@@ -16,8 +16,8 @@ pub returns : goal.returns
 unfolding usable_leaves
 returns c =
     let a = c.args in
-    let d = a.values.now in
-    let m = lent d a.count in
+    let d = a.list.values.now in
+    let m = list_of a.list in
     let w = a.state.now in
     let guard = c.guard-watched.ensures in
     let finish = c.finish-findings in
@@ -28,5 +28,5 @@ returns c =
     c.found-advanced.ensures ∙ ap (advanced_by m a.before a.given finish.result) listed.summary_value
     ∙ ap (λ (f : Findings). advanced_by m a.before a.given f (summary_of f.rows)) judged in
     let directions = ap (λ (x : Advanced). x.state.kept.directions) found in
-    way_left (function_of d 5) a.count w found (listed.count_after ∙ ap (λ (f : Findings). causes_of f.rows) judged) guard.state_after
+    way_left (function_of d 5) a.list.count w found (listed.count_after ∙ ap (λ (f : Findings). causes_of f.rows) judged) guard.state_after
     (guarded_tail d a.given.reading a.before.kept.directions w directions) c.put_front.ensures

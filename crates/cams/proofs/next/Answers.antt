@@ -18,7 +18,7 @@ overflow_cast-tolerance c = record { fits = omega (arith, c.number-tolerance.ens
 
 pub loop-n-init : goal.loop-n-init
 unfolding cams_up_to
-loop-n-init c = (omega arith, refl)
+loop-n-init c = refl
 
 pub overflow_add-signals : goal.overflow_add-signals
 overflow_add-signals c =
@@ -29,7 +29,7 @@ overflow_add-signals c =
     let e : SFits w32 c.cam_edge-edge.result = search rules in
     let added : c.signal-signals.result ≡ 2 ^ n * flag (cam_of d p n (bit_of c.args.before n)) =
     turn d p c.args.before n (omega arith) (to_z-of_z e ∙ c.cam_edge-edge.ensures) c.number-tolerance.ensures (to_z-of_z g) c.signal-signals.ensures in
-    record { fits = omega (arith, c.loop-n.invariant.1, up_to_low d p c.args.before n (omega arith), times_flag (cam_of d p n (bit_of c.args.before n)) (2 ^ n)) }
+    record { fits = omega (arith, c.loop-n.invariant, up_to_low d p c.args.before n (omega arith), times_flag (cam_of d p n (bit_of c.args.before n)) (2 ^ n)) }
 
 pub loop-n-preserved : goal.loop-n-preserved
 loop-n-preserved c =
@@ -38,4 +38,4 @@ loop-n-preserved c =
     let n = c.loop-n.n in
     let g : SFits w32 p = search rules in
     let e : SFits w32 c.cam_edge-edge.result = search rules in
-    (omega arith, one_more d p c.args.before n (omega arith) c.loop-n.invariant.1 (turn d p c.args.before n (omega arith) (to_z-of_z e ∙ c.cam_edge-edge.ensures) c.number-tolerance.ensures (to_z-of_z g) c.signal-signals.ensures))
+    one_more d p c.args.before n (omega arith) c.loop-n.invariant (turn d p c.args.before n (omega arith) (to_z-of_z e ∙ c.cam_edge-edge.ensures) c.number-tolerance.ensures (to_z-of_z g) c.signal-signals.ensures)

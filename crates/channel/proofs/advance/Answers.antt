@@ -1,7 +1,7 @@
 -- `channel::advance` meets its contract: what is found is what steps 2 to 4 find. Assumes nothing.
 use mathlib.Core.Path.{◌≡◌, sym, ap, ◌∙◌}
 use mathlib.Core.Bool.{true, false}
-use Rattle.machine_data.specs.Data.{lent}
+use Rattle.machine_data.specs.Data.{list_of}
 use Rattle.usable_inputs.specs.Usable.{usable_of}
 use Rattle.causes.specs.Causes.{summary_of}
 use Rattle.judge.specs.declared.Findings.{Findings}
@@ -12,7 +12,7 @@ use Rattle.channel.proofs.advance.Goals as goal
 pub returns-then-usable : goal.returns-then-usable
 returns-then-usable c =
     let a = c.args in
-    let m = lent a.values.now a.count in
+    let m = list_of a.list in
     let u : usable_of m a.given.reading ≡ true = sym c.usable.ensures ∙ c.if-usable.true in
     let judged = c.judge-findings in
     c.found.ensures ∙ ap (advanced_by m a.state a.given judged.result) c.of-summary.ensures
@@ -20,6 +20,6 @@ returns-then-usable c =
 
 pub returns-else-usable : goal.returns-else-usable
 returns-else-usable c =
-    let a = c.args in let m = lent a.values.now a.count in
+    let a = c.args in let m = list_of a.list in
     let u : usable_of m a.given.reading ≡ false = sym c.usable.ensures ∙ c.if-usable.false in
     c.skipped.ensures ∙ unusable_cycle m a.state a.given u

@@ -30,10 +30,10 @@ returns c =
             nx = record { run = get_or w 18 0; on = c.yes-3.ensures i };
             directions =
                 record {
-                  positive = record { run = get_or w 19 0; watch = c.watch_from.ensures i };
-                  negative = record { run = get_or w 22 0; watch = c.watch_from-2.ensures i };
+                  positive = record { run = get_or w 19 0; watch = c.position_from.ensures i };
+                  negative = record { run = get_or w 22 0; watch = c.position_from-2.ensures i };
                 };
           };
       stop = c.stop_from.ensures i;
-      previous = c.previous_from.ensures i;
+      previous = c.position_from-3.ensures i;
     }

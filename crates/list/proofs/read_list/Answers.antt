@@ -1,11 +1,7 @@
 -- `list::read_list` meets its contract. Assumes nothing.
 use mathlib.Core.Path.{sym, ◌∙◌}
-use Rattle.list.proofs.Steps.{no_head_word, by_head}
+use Rattle.list.proofs.Steps.{by_head}
 use Rattle.list.proofs.read_list.Goals as goal
-
-pub returns-in_default : goal.returns-in_default
-returns-in_default c =
-    c.refused.ensures ∙ no_head_word c.args.words.now c.word_at.ensures c.in_default.not-Head
 
 pub returns-then-is_head : goal.returns-then-is_head
 returns-then-is_head c =

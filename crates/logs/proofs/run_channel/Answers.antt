@@ -1,15 +1,16 @@
 -- `logs::run_channel` meets its contract. The loop's invariant: what is left of the log gives, from here, what the whole log gives. Assumes nothing.
-use mathlib.Core.Path.{refl, sym, ap, ◌∙◌}
+use mathlib.Core.Path.{◌≡◌, refl, sym, ap, ◌∙◌}
 use native.Mathlib.Omega.{arith}
 use borrow.Author.Rules.{rules}
 use lib.ListN.{length-set}
 use lib.IntN.{ℤ}
-use Rattle.machine_data.specs.Data.{lent}
+use Rattle.machine_data.specs.Data.{list_of}
+use Rattle.channel.specs.Cycle.{with_list}
 use Rattle.seven.specs.Seven.{six_from, record_of}
-use Rattle.seven.proofs.ByBits.{six_there}
+use Rattle.std.specs.Prelude.{is_some}
+use Rattle.seven.proofs.ByBits.{six_there, all_six}
 use Rattle.records.proofs.Seven.{begins_none}
 use Rattle.logs.specs.Alone.{given_in}
-use Rattle.logs.specs.Left.{beside}
 use Rattle.logs.proofs.Going.{starts, there, remarked, stepped, ended}
 use Rattle.logs.proofs.run_channel.Goals as goal
 
@@ -21,29 +22,15 @@ pub loop-at-preserved-in_default : goal.loop-at-preserved-in_default
 loop-at-preserved-in_default c =
     let l = c.loop-at in (search rules, l.invariant.1, remarked l.invariant.2 c.loop-at-test.true (begins_none _ c.word_of.ensures c.in_default.not-Position))
 
-pub record_at-recorded-requires : goal.record_at-recorded-requires
-record_at-recorded-requires c =
-    (there c.loop-at.invariant.2 c.loop-at-test.true (sym c.word_of.ensures ∙ c.in-Position.is)).0
-
-pub offset_bounds-out-next : goal.offset_bounds-out-next
-offset_bounds-out-next c =
-    omega (arith, (there c.loop-at.invariant.2 c.loop-at-test.true (sym c.word_of.ensures ∙ c.in-Position.is)).1, c.loop-at.invariant.1, c.well_formed)
+pub unwrap-six-requires : goal.unwrap-six-requires
+unwrap-six-requires c =
+    let l = c.loop-at in
+    let whole = (there l.invariant.2 c.loop-at-test.true (sym c.in-Position.ensures)).0 in
+    ap is_some (c.six_behind.ensures ∙ six_there c.args.words.now l.at (omega (arith, whole)))
 
 pub bounds-out-next : goal.bounds-out-next
 bounds-out-next c =
-    (there c.loop-at.invariant.2 c.loop-at-test.true (sym c.word_of.ensures ∙ c.in-Position.is)).1
-
-pub overflow_add-at-in-loop-at : goal.overflow_add-at-in-loop-at
-overflow_add-at-in-loop-at c =
-    omega (arith, (there c.loop-at.invariant.2 c.loop-at-test.true (sym c.word_of.ensures ∙ c.in-Position.is)).0, c.well_formed)
-
-pub overflow_add-next : goal.overflow_add-next
-overflow_add-next c =
-    omega (arith, (there c.loop-at.invariant.2 c.loop-at-test.true (sym c.word_of.ensures ∙ c.in-Position.is)).1, c.loop-at.invariant.1, c.well_formed)
-
-pub loop-at-smaller : goal.loop-at-smaller
-loop-at-smaller c =
-    omega (arith, c.loop-at-test.true)
+    (there c.loop-at.invariant.2 c.loop-at-test.true (sym c.in-Position.ensures)).1
 
 pub loop-at-preserved : goal.loop-at-preserved
 loop-at-preserved c =
@@ -51,14 +38,16 @@ loop-at-preserved c =
     let a = c.args in
     let s = a.words.now in
     let p = c.in-Position.position in
-    let first = sym c.word_of.ensures ∙ c.in-Position.is in
+    let first = sym c.in-Position.ensures in
     let whole = there l.invariant.2 c.loop-at-test.true first in
-    let recorded = c.record_at-recorded.ensures ∙ ap (λ (z : ℤ). record_of z (six_from s l.at)) {y = p} (search rules) ∙ ap (record_of p) (sym (six_there s l.at (omega (arith, whole.0)))) in (
+    let six = c.unwrap-six.result in
+    let is : six_from s l.at ≡ six = (all_six s l.at (sym c.six_behind.ensures ∙ c.unwrap-six.ensures)).1 in
+    let recorded = c.record_of-recorded.ensures ∙ ap (λ (z : ℤ). record_of z six) {y = p} (search rules) ∙ ap (record_of p) (sym is) in (
       whole.0,
       length-set l.out l.next c.advance-after.result.word ∙ l.invariant.1,
-      stepped l.invariant.2 c.loop-at-test.true first (c.given_by-given.ensures ∙ ap (given_in a.second (lent a.other.now a.count) l.reported) recorded) c.advance-after.ensures c.next_k-reported.ensures,
+      stepped l.invariant.2 c.loop-at-test.true first (c.given_by-given.ensures ∙ ap (given_in a.side (list_of a.other) l.reported) recorded) c.advance-after.ensures c.next_k-reported.ensures,
     )
 
 pub returns : goal.returns
 returns c =
-    let a = c.args in ended (beside a.values.now a.own_count a.start) c.loop-at.invariant.2 c.loop-at-test.false
+    let a = c.args in ended (with_list (list_of a.own) a.start) c.loop-at.invariant.2 c.loop-at-test.false

@@ -1,7 +1,7 @@
 -- `pending::told` meets its contract, usable or not. Assumes nothing.
 use mathlib.Core.Path.{◌≡◌, sym, ap, ◌∙◌}
 use mathlib.Core.Bool.{true, false}
-use Rattle.machine_data.specs.Data.{lent}
+use Rattle.machine_data.specs.Data.{list_of}
 use Rattle.usable_inputs.specs.Usable.{usable_of}
 use Rattle.codes.specs.Codes.{causes_of}
 use Rattle.state.specs.declared.State.{State}
@@ -14,7 +14,7 @@ use Rattle.pending.proofs.told.Goals as goal
 pub returns-then-usable : goal.returns-then-usable
 returns-then-usable c =
     let a = c.args in
-    let m = lent a.values.now a.count in
+    let m = list_of a.list in
     let u : usable_of m a.reading ≡ true = sym c.usable.ensures ∙ c.if-usable.true in
     c.list_causes-listed.ensures.count_after ∙ ap causes_of c.fresh_rows.ensures
     ∙ ap (λ (f : Findings). causes_of (fresh_rows f.rows)) c.judge-findings.ensures
@@ -24,6 +24,6 @@ returns-then-usable c =
 pub returns-else-usable : goal.returns-else-usable
 returns-else-usable c =
     let a = c.args in
-    let m = lent a.values.now a.count in
+    let m = list_of a.list in
     let u : usable_of m a.reading ≡ false = sym c.usable.ensures ∙ c.if-usable.false in
     c.unusable.ensures ∙ unusable_told m a.state a.reading a.report u

@@ -1,13 +1,8 @@
 -- `run_text::lines_length` meets its contract. Assumes nothing.
-use Prim.Native.Nat.{◌-◌}
-use lib.ListN.{length}
-use Rattle.run_text.proofs.Going.{Measured}
+use Rattle.std.proofs.Common.{◌≡◌, ◌*◌, ◌≤◌, length, take}
+use Rattle.run_text.specs.RunText.{lines_of}
 use Rattle.run_text.proofs.lines_length.Given as goal
 
-abbrev pub invariant-loop-next : goal.invariant-loop-next
-invariant-loop-next l =
-    Measured l.words l.next l.cycle l.bytes
-
-abbrev pub decreases-loop-next : goal.decreases-loop-next
-decreases-loop-next l =
-    length l.words - l.next
+-- the first i lines are measured
+abbrev pub invariant-loop-i : goal.invariant-loop-i
+invariant-loop-i l = record { size : l.bytes ≡ length (lines_of 0 (take l.i l.cycles)); few : l.bytes ≤ 32 * l.i }

@@ -1,13 +1,10 @@
 -- `run_text::put_lines` meets its contract. Assumes nothing.
-use Prim.Native.Nat.{◌-◌}
-use lib.ListN.{length}
-use Rattle.run_text.proofs.Going.{Put}
+use Rattle.std.proofs.Common.{◌≡◌, length, take}
+use Rattle.numerals.specs.Written.{splice}
+use Rattle.run_text.specs.RunText.{lines_of}
 use Rattle.run_text.proofs.put_lines.Given as goal
 
-abbrev pub invariant-loop-next : goal.invariant-loop-next
-invariant-loop-next l =
-    Put l.words l.initial.out l.out l.next l.cycle l.at
-
-abbrev pub decreases-loop-next : goal.decreases-loop-next
-decreases-loop-next l =
-    length l.words - l.next
+-- the first i lines are put
+abbrev pub invariant-loop-i : goal.invariant-loop-i
+invariant-loop-i l =
+    record { size : l.at ≡ length (lines_of 0 (take l.i l.cycles)); stands : l.out ≡ splice 0 (lines_of 0 (take l.i l.cycles)) l.initial.out }

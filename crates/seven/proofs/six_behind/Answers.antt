@@ -1,17 +1,17 @@
 -- `seven::six_behind` meets its contract. Assumes nothing.
-use mathlib.Core.Path.{sym}
+use mathlib.Core.Path.{◌∙◌}
 use native.Mathlib.Omega.{arith}
-use Rattle.seven.proofs.ByBits.{six_there, six_missing}
+use Rattle.seven.proofs.ByBits.{six_sliced, six_missing}
 use Rattle.seven.proofs.six_behind.Goals as goal
 
-pub returns-then-words-at : goal.returns-then-words-at
-returns-then-words-at c =
-    let a = c.args in six_missing a.words.now a.at (omega (arith, c.if-words-at.true))
+pub returns-in_err-get : goal.returns-in_err-get
+returns-in_err-get c =
+    let a = c.args in c.from_residual.ensures ∙ six_missing a.words.now a.at (omega (arith, c.in_err-get.ensures))
 
-pub returns-then-words-at-lt7 : goal.returns-then-words-at-lt7
-returns-then-words-at-lt7 c =
-    let a = c.args in six_missing a.words.now a.at (omega (arith, c.if-words-at.false, c.if-words-at-lt7.true))
+pub returns-in_default : goal.returns-in_default
+returns-in_default c =
+    let a = c.args in six_missing a.words.now a.at (omega (arith, c.in_ok-get.ensures, c.in_default.len_below))
 
 pub returns : goal.returns
 returns c =
-    let a = c.args in sym (six_there a.words.now a.at (omega (arith, c.if-words-at.false, c.if-words-at-lt7.false)))
+    let a = c.args in let h = c.in_ok-get.ensures.lookup.0 in six_sliced a.words.now c.in_ok-get.field-0.now a.at h.2 h.3 c.in-len7-up.len_at_least

@@ -1,21 +1,21 @@
 -- `speed::load_time` meets its contract: T is at most 25, and a denominator has 16 bits. Assumes nothing.
-use mathlib.Core.Path.{ap}
+use mathlib.Core.List.{List}
+use mathlib.Core.Path.{◌≡◌}
 use Prim.Native.Nat.{ℕ, ◌*◌, ◌≤◌}
 use native.Mathlib.Nat.{mul-le-mul}
 use native.Mathlib.Omega.{arith}
+use lib.IntN.{ℤ}
 use mir.Facts.{Fits-le, Fits-lit}
-use Rattle.machine_data.proofs.Bounds.{cycle}
 use borrow.Author.Rules.{rules}
+use Rattle.machine_data.specs.Data.{number_of}
+use Rattle.machine_data.proofs.Bounds.{cycle}
 use Rattle.speed.proofs.load_time.Goals as goal
 
-most : (c : goal.After-struct_known-1) → c.number.result * c.args.step.ratio.denominator ≤ 1_638_375
-most c =
-    mul-le-mul {n₂ = 25} {m₂ = 65_535} (omega (arith, c.number.ensures, (cycle c.args.values.now).1)) (search rules)
+most : (d : List ℤ) {t denominator : ℕ} → t ≡ number_of d 0 → denominator ≤ 65_535 → t * denominator ≤ 1_638_375
+most d e h = mul-le-mul {n₂ = 25} {m₂ = 65_535} (omega (arith, e, (cycle d).1)) h
 
 pub overflow_mul-result : goal.overflow_mul-result
-overflow_mul-result c =
-    Fits-le (most c) (Fits-lit tt)
+overflow_mul-result c = Fits-le (most c.args.values.now c.number.ensures (search rules)) (Fits-lit tt)
 
-pub returns : goal.returns
-returns c =
-    record { value = ap (λ (t : ℕ). t * c.args.step.ratio.denominator) c.number.ensures; upper_bound = most c }
+pub returns-clause-upper_bound : goal.returns-clause-upper_bound
+returns-clause-upper_bound c = most c.args.values.now c.number.ensures (search rules)

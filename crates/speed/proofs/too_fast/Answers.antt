@@ -1,6 +1,5 @@
--- `speed::too_fast` meets its contract: both products fit, by the bounds of their factors. Assumes nothing.
+-- `speed::too_fast` meets its contract: the product fits, by the bounds of its factors. Assumes nothing.
 use native.Mathlib.Omega.{arith}
-use Rattle.speed.specs.Speed.{too_fast}
 use Rattle.speed.proofs.Bounds.{speed_most, product_fits}
 use Rattle.speed.proofs.too_fast.Goals as goal
 
@@ -8,8 +7,3 @@ pub overflow_mul-result : goal.overflow_mul-result
 overflow_mul-result c =
     let s = c.args in
     product_fits (omega (arith, c.sg_speed.ensures, speed_most s.values.now s.sg.number s.sg.over)) (omega (arith, c.load_time.ensures.upper_bound))
-
-pub returns : goal.returns
-unfolding too_fast
-returns c =
-    simp (c.sg_speed.ensures, c.load_time.ensures.value, c.load_step.ensures.value)

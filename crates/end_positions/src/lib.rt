@@ -23,12 +23,13 @@ fn beyond(values: &Values, reading: Reading, k: usize) -> bool
 pub fn outside(values: &Values, reading: Reading) -> bool
     ensures { result ≡ outside values.now reading }
 {
-    let minus = if inputs::se2_chosen(reading.inputs) {
-        numbers::SE2_MINUS
-    } else {
-        numbers::SE1_MINUS
-    };
-    machine_data::function(values, functions::SE) && beyond(values, reading, minus)
+    // A call for each SE, with the number of its minus: so the range of each end is a constant.
+    machine_data::function(values, functions::SE)
+        && if inputs::se2_chosen(reading.inputs) {
+            beyond(values, reading, numbers::SE2_MINUS)
+        } else {
+            beyond(values, reading, numbers::SE1_MINUS)
+        }
 }
 
 // The rank of cause 4.

@@ -4,6 +4,7 @@
 ghost use Rattle.std.specs.Prelude.{◌≡◌, ◌+◌, ◌≤◌, ◌*◌, length, IfOk, IfErr};
 ghost use Rattle.machine_data.specs.Data.{list_of};
 ghost use Rattle.channel.specs.Cycle.{with_list};
+ghost use Rattle.seven.specs.Seven.{six_from, record_of};
 ghost use Rattle.logs.specs.Alone.{readings_in, given_in, first_place, with_devices};
 ghost use Rattle.logs.specs.Run.{ran_of};
 ghost use Rattle.logs.specs.Left.{left_by, left_beside, ran_beside, Enough, Sound, Refuses, RunsAlone};
@@ -12,7 +13,7 @@ use channel::Channel;
 use inputs::Reading;
 use machine_data::Lent;
 use refusal::Refusal;
-use seven::CycleRecord;
+use seven::{CycleRecord, Halves, Six};
 use state::{Given, State};
 use words::Word;
 
@@ -57,6 +58,27 @@ impl Side {
     }
 }
 
+// The record that begins with a position at a place where one stands whole. No `six_behind` of `seven` with its Option: what it
+// asks a log's check has asked, and the run would ask it again in each cycle of each channel.
+fn record_at(words: &[u32], at: usize, position: i32) -> CycleRecord
+    requires { at + 7 ≤ length words.now }
+    ensures { result ≡ record_of position (six_from words.now at) }
+{
+    let six = Six {
+        a: Halves {
+            lower: words[at + 1],
+            upper: words[at + 2],
+        },
+        position: words[at + 3],
+        b: Halves {
+            lower: words[at + 4],
+            upper: words[at + 5],
+        },
+        end: words[at + 6],
+    };
+    seven::record_of(position, six)
+}
+
 // What a record gives a channel: its own reading, and the other's report by the other's k.
 fn given_by(recorded: CycleRecord, side: Side, other: Lent, k: u8) -> Given
     ensures { result ≡ given_in side (list_of other.entry) k recorded }
@@ -99,15 +121,15 @@ fn run_channel(
             at += 1;
             continue;
         };
-        let six = seven::six_behind(words, at).unwrap();
-        let recorded = seven::record_of(position, six);
+        let recorded = record_at(words, at, position);
         let given = given_by(recorded, side, other, reported);
         let after = channel::advance(own, state, given);
-        out[next] = after.word;
+        // What the cycle leaves goes out before the other's k is counted: with k first an unusable cycle took a seventh longer.
         state = after.state;
+        out[next] = after.word;
+        next += 3;
         reported = report::next_k(other.count, reported);
         at += 7;
-        next += 3;
     }
     state
 }

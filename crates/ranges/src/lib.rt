@@ -3,7 +3,7 @@
 
 pub mod heads;
 
-ghost use Rattle.std.specs.Prelude.{◌≡◌, ◌&&◌};
+ghost use Rattle.std.specs.Prelude.{◌≡◌, ◌≤◌, ◌&&◌};
 ghost use Rattle.std.specs.Int.Signed.{le_z};
 ghost use Rattle.ranges.specs.Table.{data_count, range_of, in_range, most_functions, allowed};
 
@@ -23,6 +23,23 @@ impl Range {
     {
         self.low <= z && z <= self.high
     }
+}
+
+// The rows of the data that requests added; 0 to 0 past the last.
+fn range_from_51(k: usize) -> Range
+    requires { 51 ≤ k }
+    ensures { result ≡ range_of k }
+{
+    let (low, high) = match k {
+        51..=66 => (1, 1_000),
+        67 => (0, 1_000_000),
+        68 => (0, 1_000),
+        69 => (0, 100_000),
+        70 => (0, 1_000),
+        71 => (1, 5),
+        _ => (0, 0),
+    };
+    Range { low, high }
 }
 
 // The range of datum k, a row of the table a line; 0 to 0 past the last.
@@ -45,13 +62,7 @@ pub fn range_of(k: usize) -> Range
         33 => (0, 1_000_000),
         34 => (0, 1_000),
         35..=50 => (1, 100),
-        51..=66 => (1, 1_000),
-        67 => (0, 1_000_000),
-        68 => (0, 1_000),
-        69 => (0, 100_000),
-        70 => (0, 1_000),
-        71 => (1, 5),
-        _ => (0, 0),
+        _ => return range_from_51(k),
     };
     Range { low, high }
 }

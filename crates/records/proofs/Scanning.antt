@@ -84,6 +84,11 @@ at_record s at l r h e rest =
     let b = by_entry s at l h rest in
     (log_from b.0 s (at + 7), (b.0, omega (arith, b.1), refl), sym (ap (λ (x : Result Entry ℕ). on_entry x (λ y. before y (log_from b.0 s (at + 7))) (log_from b.0 s (at + 1))) e) ∙ b.2)
 
+-- an entry that is no record is a remark
+pub remark_else : (x : Entry) → ((r : CycleRecord) → x ≡ Record r → ⊥) → x ≡ Remark
+remark_else (Record r) h = absurd (h r refl)
+remark_else Remark h = refl
+
 pub at_remark : (s : List ℕ) (at : ℕ) (l : LogRead) → at < length s → entry_at s at ≡ Ok Remark → Rest s at l → Rest s (at + 1) l
 at_remark s at l h e rest =
     let b = by_entry s at l h rest in

@@ -1,4 +1,5 @@
 pub mod Order
 pub mod Chosen
 pub mod Numbered
+pub mod Same
 pub mod Effective

@@ -1,5 +1,5 @@
 -- Step 3 of a cycle, the selection: document 01, "One cycle of a channel".
-use Rattle.std.specs.Prelude.{ℕ, zero, suc, Bool, true, false, not, cond, ◌&&◌, ◌||◌, List, ℤ, ltb}
+use Rattle.std.specs.Prelude.{ℕ, zero, suc, Bool, true, false, not, cond, ◌&&◌, ◌||◌, List, ℤ, ltb, eqb}
 use Rattle.machine_data.specs.Data.{number_of, function_of}
 use Rattle.inputs.specs.Layout.{sbh_sg_off, sbh_off, sg_number, override_number}
 use Rattle.speed.specs.Speed.{speed_of}
@@ -22,6 +22,17 @@ allowance_of d Sbh = 0
 -- s is stricter than e
 unfoldable pub stricter : List ℤ → Selection → Selection → Bool
 stricter d s e = ltb (allowance_of d s) (allowance_of d e)
+
+-- the same SG with the same override
+abbrev pub is_sg : ℕ → ℕ → Selection → Bool
+is_sg n o Nothing = false
+is_sg n o (Sg m p) = eqb m n && eqb p o
+is_sg n o Sbh = false
+
+abbrev pub same_sg : Selection → Selection → Bool
+same_sg Nothing e = false
+same_sg (Sg n o) e = is_sg n o e
+same_sg Sbh e = false
 
 -- SBH
 abbrev pub is_sbh : Selection → Bool

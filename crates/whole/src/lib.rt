@@ -9,7 +9,7 @@ ghost use Rattle.whole.specs.Bits.{Layout, unless_nan, whole_part, with_sign, pa
 ghost use Rattle.std.proofs.Common.{mul-one};
 
 // A float of one of the formats, by its pattern: the digits behind the leading one are lowest, above them the exponent field, then the sign.
-pub trait Binary: Copy {
+trait Binary: Copy {
     // The leading digit's weight: the digits stand below it, and the exponent field from there on.
     const LEAD: u64;
 

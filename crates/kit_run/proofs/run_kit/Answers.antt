@@ -16,7 +16,7 @@ slice_bounds-run_behind-start c =
 
 pub slice_bounds-run_behind-count : goal.slice_bounds-run_behind-count
 slice_bounds-run_behind-count c =
-    log_there c.args.words.now c.args.out.now c.read_kit-read.ensures c.in_ok-at.was
+    let a = c.args in log_there a.words.now a.out.now c.read_kit-read.ensures c.in_ok-at.was
 
 pub returns : goal.returns
 returns c =

@@ -7,8 +7,6 @@ use lib.IntN.{ℤ}
 use Rattle.machine_data.specs.Data.{list_of}
 use Rattle.channel.specs.Cycle.{with_list}
 use Rattle.seven.specs.Seven.{six_from, record_of}
-use Rattle.std.specs.Prelude.{is_some}
-use Rattle.seven.proofs.ByBits.{six_there, all_six}
 use Rattle.records.proofs.Seven.{begins_none}
 use Rattle.logs.specs.Alone.{given_in}
 use Rattle.logs.proofs.Going.{starts, there, remarked, stepped, ended}
@@ -22,11 +20,9 @@ pub loop-at-preserved-in_default : goal.loop-at-preserved-in_default
 loop-at-preserved-in_default c =
     let l = c.loop-at in (search rules, l.invariant.1, remarked l.invariant.2 c.loop-at-test.true (begins_none _ c.word_of.ensures c.in_default.not-Position))
 
-pub unwrap-six-requires : goal.unwrap-six-requires
-unwrap-six-requires c =
-    let l = c.loop-at in
-    let whole = (there l.invariant.2 c.loop-at-test.true (sym c.in-Position.ensures)).0 in
-    ap is_some (c.six_behind.ensures ∙ six_there c.args.words.now l.at (omega (arith, whole)))
+pub record_at-recorded-requires : goal.record_at-recorded-requires
+record_at-recorded-requires c =
+    (there c.loop-at.invariant.2 c.loop-at-test.true (sym c.in-Position.ensures)).0
 
 pub bounds-out-next : goal.bounds-out-next
 bounds-out-next c =
@@ -40,9 +36,7 @@ loop-at-preserved c =
     let p = c.in-Position.position in
     let first = sym c.in-Position.ensures in
     let whole = there l.invariant.2 c.loop-at-test.true first in
-    let six = c.unwrap-six.result in
-    let is : six_from s l.at ≡ six = (all_six s l.at (sym c.six_behind.ensures ∙ c.unwrap-six.ensures)).1 in
-    let recorded = c.record_of-recorded.ensures ∙ ap (λ (z : ℤ). record_of z six) {y = p} (search rules) ∙ ap (record_of p) (sym is) in (
+    let recorded = c.record_at-recorded.ensures ∙ ap (λ (z : ℤ). record_of z (six_from s l.at)) {y = p} (search rules) in (
       whole.0,
       length-set l.out l.next c.advance-after.result.word ∙ l.invariant.1,
       stepped l.invariant.2 c.loop-at-test.true first (c.given_by-given.ensures ∙ ap (given_in a.side (list_of a.other) l.reported) recorded) c.advance-after.ensures c.next_k-reported.ensures,

@@ -6,7 +6,7 @@ use lib.ListN.{length}
 use borrow.Author.Rules.{rules}
 use Rattle.std.proofs.Common.{Ok}
 use Rattle.records.specs.Records.{counted, log_of}
-use Rattle.records.proofs.Scanning.{record_there, at_record, at_remark, at_bad, at_end, counted_before}
+use Rattle.records.proofs.Scanning.{record_there, at_record, remark_else, at_remark, at_bad, at_end, counted_before}
 use Rattle.records.proofs.Parts.{passed_on}
 use Rattle.records.proofs.scan_log.Goals as goal
 
@@ -19,18 +19,18 @@ returns-in_err-entry_at c =
     let l = c.loop-at in let s = c.args.words.now in
     passed_on _ _ c.from_residual.ensures ∙ ap (counted l.cycles) (at_bad s l.at l.invariant.2.0 c.loop-at-test.true (sym c.in_err-entry_at.ensures) l.invariant.2.1) ∙ l.invariant.2.2
 
-pub loop-at-preserved-in-Record : goal.loop-at-preserved-in-Record
-loop-at-preserved-in-Record c =
+pub loop-at-preserved : goal.loop-at-preserved
+loop-at-preserved c =
     let l = c.loop-at in let s = c.args.words.now in
     let r = c.in-Record.field-0 in
     let is = sym c.in_ok-entry_at.ensures ∙ ap Ok c.in-Record.is in
     let x = at_record s l.at l.invariant.2.0 r c.loop-at-test.true is l.invariant.2.1 in
     (record_there s l.at r is, omega arith, (x.0, x.1, sym (counted_before l.cycles r x.0) ∙ ap (counted l.cycles) x.2 ∙ l.invariant.2.2))
 
-pub loop-at-preserved : goal.loop-at-preserved
-loop-at-preserved c =
+pub loop-at-preserved-in_default : goal.loop-at-preserved-in_default
+loop-at-preserved-in_default c =
     let l = c.loop-at in let s = c.args.words.now in
-    (search rules, search rules, (l.invariant.2.0, at_remark s l.at l.invariant.2.0 c.loop-at-test.true (sym c.in_ok-entry_at.ensures ∙ ap Ok c.in-Remark.is) l.invariant.2.1, l.invariant.2.2))
+    (search rules, search rules, (l.invariant.2.0, at_remark s l.at l.invariant.2.0 c.loop-at-test.true (sym c.in_ok-entry_at.ensures ∙ ap Ok (remark_else _ c.in_default.not-Record)) l.invariant.2.1, l.invariant.2.2))
 
 pub returns : goal.returns
 returns c =

@@ -1,8 +1,10 @@
 -- One channel of a log's run by itself, and where its words go: of the private functions. proofs/Apart.antt ties them to Run.antt.
-use Rattle.std.specs.Prelude.{ℕ, zero, suc, ◌+◌, List, [], ◌∷◌, get_or, set}
+use Rattle.std.specs.Prelude.{ℕ, zero, suc, ◌+◌, ◌%◌, List, [], ◌∷◌, get_or, set}
 use Rattle.machine_data.specs.declared.MachineData.{MachineData}
 use Rattle.inputs.specs.declared.Reading.{Reading}
+use Rattle.words.specs.Words.{twos}
 use Rattle.seven.specs.declared.CycleRecord.{CycleRecord}
+use Rattle.seven.specs.Seven.{six_from, reading_from, record_of}
 use Rattle.state.specs.declared.State.{State}
 use Rattle.state.specs.declared.Given.{Given}
 use Rattle.report.specs.Report.{next_k}
@@ -17,6 +19,18 @@ use Rattle.logs.specs.Run.{given_by}
 abbrev pub readings_in : Side → CycleRecord → Reading × Reading
 readings_in A r = (r.a, r.b)
 readings_in B r = (r.b, r.a)
+
+-- how far into a record A's reading stands and B's: the own reading of a channel, and the other's
+abbrev pub reading_places : Side → ℕ × ℕ
+reading_places A = (0, 3)
+reading_places B = (3, 0)
+
+-- the reading whose three words stand at a place, and the record whose seven do
+abbrev pub reading_there : List ℕ → ℕ → Reading
+reading_there s at = reading_from (twos 134217728 (get_or s at 0 % 268435456)) (record { lower = get_or s (at + 1) 0; upper = get_or s (at + 2) 0 })
+
+abbrev pub record_from : List ℕ → ℕ → CycleRecord
+record_from s at = record_of (twos 134217728 (get_or s at 0 % 268435456)) (six_from s at)
 
 -- A's word is the first of a cycle's three, B's the second
 abbrev pub first_place : Side → ℕ

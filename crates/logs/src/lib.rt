@@ -1,11 +1,10 @@
 // The run of a log over two channels, into a lent output.
 #![tactic(auto)]
 
-ghost use Rattle.std.specs.Prelude.{◌≡◌, ◌+◌, ◌≤◌, ◌*◌, length, IfOk, IfErr};
+ghost use Rattle.std.specs.Prelude.{◌≡◌, ◌+◌, ◌<◌, ◌≤◌, ◌*◌, length, IfOk, IfErr};
 ghost use Rattle.machine_data.specs.Data.{list_of};
 ghost use Rattle.channel.specs.Cycle.{with_list};
-ghost use Rattle.seven.specs.Seven.{six_from, record_of};
-ghost use Rattle.logs.specs.Alone.{readings_in, given_in, first_place, with_devices};
+ghost use Rattle.logs.specs.Alone.{reading_places, reading_there, record_from, given_in, first_place, with_devices};
 ghost use Rattle.logs.specs.Run.{ran_of};
 ghost use Rattle.logs.specs.Left.{left_by, left_beside, ran_beside, Enough, Sound, Refuses, RunsAlone};
 
@@ -13,7 +12,6 @@ use channel::Channel;
 use inputs::Reading;
 use machine_data::Lent;
 use refusal::Refusal;
-use seven::{CycleRecord, Halves, Six};
 use state::{Given, State};
 use words::Word;
 
@@ -37,13 +35,13 @@ enum Side {
 }
 
 impl Side {
-    // The channel's own reading in a record, and the other's.
-    fn readings(self, recorded: CycleRecord) -> (Reading, Reading)
-        ensures { result ≡ readings_in self recorded }
+    // How far into a record the channel's own reading stands, and the other's.
+    fn reading_places(self) -> (usize, usize)
+        ensures { result ≡ reading_places self }
     {
         match self {
-            Side::A => (recorded.a, recorded.b),
-            Side::B => (recorded.b, recorded.a),
+            Side::A => (0, 3),
+            Side::B => (3, 0),
         }
     }
 
@@ -58,36 +56,28 @@ impl Side {
     }
 }
 
-// The record that begins with a position at a place where one stands whole. No `six_behind` of `seven` with its Option: what it
-// asks a log's check has asked, and the run would ask it again in each cycle of each channel.
-fn record_at(words: &[u32], at: usize, position: i32) -> CycleRecord
-    requires { at + 7 ≤ length words.now }
-    ensures { result ≡ record_of position (six_from words.now at) }
+// A channel's reading at its place in a record: a position, and the two words of an input word.
+fn reading_at(words: &[u32], at: usize) -> Reading
+    requires { at + 2 < length words.now }
+    ensures { result ≡ reading_there words.now at }
 {
-    let six = Six {
-        a: Halves {
-            lower: words[at + 1],
-            upper: words[at + 2],
-        },
-        position: words[at + 3],
-        b: Halves {
-            lower: words[at + 4],
-            upper: words[at + 5],
-        },
-        end: words[at + 6],
-    };
-    seven::record_of(position, six)
+    Reading {
+        position: words::position_of(words[at]),
+        inputs: words[at + 2] % 65536 * 65536 + words[at + 1] % 65536,
+    }
 }
 
-// What a record gives a channel: its own reading, and the other's report by the other's k.
-fn given_by(recorded: CycleRecord, side: Side, other: Lent, k: u8) -> Given
-    ensures { result ≡ given_in side (list_of other.entry) k recorded }
+// What a record gives a channel: its own reading, and the other's report by the other's k. Each reading is read at its place, and
+// not picked out of a whole record: that took an unusable cycle of a log a tenth longer.
+fn given_at(words: &[u32], at: usize, side: Side, other: Lent, k: u8) -> Given
+    requires { at + 7 ≤ length words.now }
+    ensures { result ≡ given_in side (list_of other.entry) k (record_from words.now at) }
 {
-    let (reading, others) = side.readings(recorded);
+    let (own, others) = side.reading_places();
     Given {
-        reading,
-        acknowledged: recorded.acknowledged,
-        report: report::report_of(other, k, others),
+        reading: reading_at(words, at + own),
+        acknowledged: words[at + 6] % 2 == 1,
+        report: report::report_of(other, k, reading_at(words, at + others)),
     }
 }
 
@@ -117,18 +107,17 @@ fn run_channel(
     let mut next = side.first_place();
     // No iterator steps so: the word read says whether the next entry is 7 words on or 1.
     while at < words.len() {
-        let Word::Position(position) = words::word_of(words[at]) else {
+        let Word::Position(_) = words::word_of(words[at]) else {
             at += 1;
             continue;
         };
-        let recorded = record_at(words, at, position);
-        let given = given_by(recorded, side, other, reported);
+        let given = given_at(words, at, side, other, reported);
         let after = channel::advance(own, state, given);
-        // What the cycle leaves goes out before the other's k is counted: with k first an unusable cycle took a seventh longer.
+        // The other's k is counted before what the cycle leaves goes out: behind it an unusable cycle took up to a tenth longer.
+        reported = report::next_k(other.count, reported);
         state = after.state;
         out[next] = after.word;
         next += 3;
-        reported = report::next_k(other.count, reported);
         at += 7;
     }
     state

@@ -1,5 +1,5 @@
 -- `logs::run_channel` meets its contract. The loop's invariant: what is left of the log gives, from here, what the whole log gives. Assumes nothing.
-use mathlib.Core.Path.{◌≡◌, refl, sym, ap, ◌∙◌}
+use mathlib.Core.Path.{refl, sym, ap, ◌∙◌}
 use native.Mathlib.Omega.{arith}
 use borrow.Author.Rules.{rules}
 use lib.ListN.{length-set}
@@ -7,7 +7,10 @@ use lib.IntN.{ℤ}
 use Rattle.machine_data.specs.Data.{list_of}
 use Rattle.channel.specs.Cycle.{with_list}
 use Rattle.seven.specs.Seven.{six_from, record_of}
-use Rattle.records.proofs.Seven.{begins_none}
+use Rattle.laws.proofs.Never.{never}
+use Rattle.words.proofs.IsWord.{read_at}
+use Rattle.seven.proofs.ByBits.{position_held}
+use Rattle.records.proofs.Seven.{at_word, begins_none}
 use Rattle.logs.specs.Alone.{given_in}
 use Rattle.logs.proofs.Going.{starts, there, remarked, stepped, ended}
 use Rattle.logs.proofs.run_channel.Goals as goal
@@ -20,8 +23,8 @@ pub loop-at-preserved-in_default : goal.loop-at-preserved-in_default
 loop-at-preserved-in_default c =
     let l = c.loop-at in (search rules, l.invariant.1, remarked l.invariant.2 c.loop-at-test.true (begins_none _ c.word_of.ensures c.in_default.not-Position))
 
-pub record_at-recorded-requires : goal.record_at-recorded-requires
-record_at-recorded-requires c =
+pub given_at-given-requires : goal.given_at-given-requires
+given_at-given-requires c =
     (there c.loop-at.invariant.2 c.loop-at-test.true (sym c.in-Position.ensures)).0
 
 pub bounds-out-next : goal.bounds-out-next
@@ -33,13 +36,14 @@ loop-at-preserved c =
     let l = c.loop-at in
     let a = c.args in
     let s = a.words.now in
-    let p = c.in-Position.position in
+    let p = c.in-Position.field-0 in
     let first = sym c.in-Position.ensures in
     let whole = there l.invariant.2 c.loop-at-test.true first in
-    let recorded = c.record_at-recorded.ensures ∙ ap (λ (z : ℤ). record_of z (six_from s l.at)) {y = p} (search rules) in (
+    let held = position_held (read_at s l.at (at_word s l.at c.loop-at-test.true first) (λ e. never (cc))) in
+    let given = c.given_at-given.ensures ∙ ap (λ (z : ℤ). given_in a.side (list_of a.other) l.reported (record_of z (six_from s l.at))) {y = p} held in (
       whole.0,
       length-set l.out l.next c.advance-after.result.word ∙ l.invariant.1,
-      stepped l.invariant.2 c.loop-at-test.true first (c.given_by-given.ensures ∙ ap (given_in a.side (list_of a.other) l.reported) recorded) c.advance-after.ensures c.next_k-reported.ensures,
+      stepped l.invariant.2 c.loop-at-test.true first given c.advance-after.ensures c.next_k-reported.ensures,
     )
 
 pub returns : goal.returns
